@@ -1,0 +1,24 @@
+//! The words that every part of the checker speaks: spans and numbers of things, the ops of kernel
+//! calls, the system states with what a call does in them, and the refusals.
+//!
+//! In: nothing. Out: plain types, `number` and `words` of a refusal, and the law that ties the state
+//! table to the kernel's own checks. The definitions that rule it are `specs/Act.antt` (the state
+//! table of docs/STATES.md), `specs/Counters.antt` (the kernel's eleven checks on its two counters)
+//! and `specs/Refusals.antt`.
+//!
+//! It must not know: files, bytes, C, settings, and how anything is computed.
+#![tactic(auto)]
+
+mod laws;
+mod ops;
+mod refusals;
+mod spans;
+mod states;
+mod tokens;
+
+pub use laws::table_follows_the_kernel;
+pub use ops::Op;
+pub use refusals::{Fault, OutOfMemory, Refusal, Spot, Unsupported, number, words};
+pub use spans::{FnId, PointId, RowId, SlotId, Span};
+pub use states::{Kind, Outcome, State};
+pub use tokens::{Token, TokenKind};
