@@ -3,6 +3,7 @@ ghost use Rattle.std.specs.Prelude.{◌≡◌};
 ghost use Rattle.ck_base.specs.Refusals.{refusal_number, refusal_words};
 
 use crate::spans::Span;
+use std::alloc::{AllocError, AllocFailed};
 
 /// What the project has that is refused. `words` says what each of them is (docs/REPORT.md).
 #[derive(Clone, Copy, Debug, PartialEq, Eq)]
@@ -55,6 +56,18 @@ pub struct Refusal {
 /// Memory ran out.
 #[derive(Clone, Copy, Debug, PartialEq, Eq)]
 pub struct OutOfMemory;
+
+impl From<AllocError> for OutOfMemory {
+    fn from(_error: AllocError) -> OutOfMemory {
+        OutOfMemory
+    }
+}
+
+impl<T: Drop> From<AllocFailed<T>> for OutOfMemory {
+    fn from(_error: AllocFailed<T>) -> OutOfMemory {
+        OutOfMemory
+    }
+}
 
 /// Why a stage gave no value: a refusal of its input, or want of memory.
 #[derive(Clone, Copy, Debug, PartialEq, Eq)]

@@ -1,0 +1,4 @@
+pub mod Appending
+pub mod Told
+pub mod Reading
+pub mod Untold
