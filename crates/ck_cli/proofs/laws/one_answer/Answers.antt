@@ -1,0 +1,5 @@
+use Rattle.ck_cli.proofs.OneAnswer.{one_answer}
+use Rattle.ck_cli.proofs.laws.one_answer.Goals as goal
+
+pub returns : goal.returns
+returns c = one_answer

@@ -1,0 +1,26 @@
+use Rattle.std.proofs.Common.{◌≤◌, string_bytes, arith}
+use Rattle.ck_cli.specs.Statuses.{status_code}
+use Rattle.ck_cli.proofs.OneAnswer.{low_status}
+use Rattle.ck_cli.proofs.WordLemmas.{low_is_not_silent}
+use Rattle.ck_cli.proofs.rtcheck.Goals as goal
+
+pub returns-in-Ok-write_all-clause-command : goal.returns-in-Ok-write_all-clause-command
+returns-in-Ok-write_all-clause-command g c check is =
+    omega (arith, low_status (g.F.Folder.told c.args.folder.now) (status_code c.in-Ok.answer.status) (string_bytes c.in-Ok.answer.text) c.in-Ok.ensures.answers)
+
+pub returns-in-Ok-write_all-clause-untouched : goal.returns-in-Ok-write_all-clause-untouched
+returns-in-Ok-write_all-clause-untouched g c is =
+    absurd (omega (arith, low_status (g.F.Folder.told c.args.folder.now) (status_code c.in-Ok.answer.status) (string_bytes c.in-Ok.answer.text) c.in-Ok.ensures.answers))
+
+pub returns-in-Ok-write_all-clause-read_fault : goal.returns-in-Ok-write_all-clause-read_fault
+returns-in-Ok-write_all-clause-read_fault g c is =
+    absurd (omega (arith, low_status (g.F.Folder.told c.args.folder.now) (status_code c.in-Ok.answer.status) (string_bytes c.in-Ok.answer.text) c.in-Ok.ensures.answers))
+
+pub returns-in-Ok-write_all-clause-write_fault : goal.returns-in-Ok-write_all-clause-write_fault
+returns-in-Ok-write_all-clause-write_fault g c is =
+    absurd (omega (arith, low_status (g.F.Folder.told c.args.folder.now) (status_code c.in-Ok.answer.status) (string_bytes c.in-Ok.answer.text) c.in-Ok.ensures.answers))
+
+pub returns-in-Ok-write_all-clause-unwritten : goal.returns-in-Ok-write_all-clause-unwritten
+returns-in-Ok-write_all-clause-unwritten g c silent =
+    let low : c.code-in-Ok-write_all.result ≤ 2 = omega (arith, low_status (g.F.Folder.told c.args.folder.now) (status_code c.in-Ok.answer.status) (string_bytes c.in-Ok.answer.text) c.in-Ok.ensures.answers) in
+    absurd (low_is_not_silent c.code-in-Ok-write_all.result low silent)

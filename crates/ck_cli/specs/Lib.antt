@@ -1,0 +1,14 @@
+pub mod Calls
+pub mod Tokens
+pub mod Lexemes
+pub mod Reader
+pub mod FileForm
+pub mod Walk
+pub mod Kernel
+pub mod Texts
+pub mod Verdict
+pub mod Walking
+pub mod Walked
+pub mod Door
+pub mod MainFile
+pub mod Statuses

@@ -1,0 +1,89 @@
+//! The project: which of a folder's files are looked at, and their bytes.
+ghost use Rattle.std.specs.Prelude.{◌≡◌, ◌≤◌, ◌↔◌, ◌||◌, ◌&&◌, not, nat_eq, IsTrue, IfOk, map, string_bytes, codes};
+ghost use Rattle.std.specs.List.{list_any, list_all};
+ghost use Rattle.std.specs.Str.{bytes_eq};
+ghost use Rattle.ck_io.specs.Outside.{Rose};
+ghost use Rattle.ck_cli.specs.Door.{HasJustMain, is_source as ends_in_i, main_name};
+ghost use Rattle.ck_cli.specs.MainFile.{IsFound};
+
+use ck_io::{Folder, NamesError, ReadError, read_all};
+use std::alloc::Global;
+
+/// The name of the file that is checked.
+const MAIN: &str = "main.i";
+
+/// The greatest number of bytes of a file.
+const MOST_BYTES: u32 = 1_048_576;
+
+/// What a folder has of the file that is checked.
+#[derive(Debug, Drop)]
+pub enum MainFile {
+    /// Its source files aren't just `main.i`.
+    Missing,
+    /// It has too many bytes.
+    TooLarge,
+    /// Its bytes.
+    Read(Vec<u8>),
+}
+
+/// Why there is no answer.
+#[derive(Clone, Copy, Debug, PartialEq, Eq)]
+pub enum Stop {
+    /// A call on the folder failed.
+    ReadFault,
+    /// Memory ran out.
+    OutOfMemory,
+}
+
+/// Whether a name is that of a source file.
+fn is_source(name: &str) -> bool
+    ensures { result ≡ ends_in_i name.now }
+{
+    name.as_bytes().ends_with(b".i".as_slice())
+}
+
+/// Whether `main.i` is among these names.
+fn has_main(names: &[String]) -> bool
+    ensures { result ≡ list_any (λ name. bytes_eq (string_bytes name) main_name) names.now }
+{
+    names.iter().any(|name| name.as_str() == MAIN)
+}
+
+/// Whether none of these names but `main.i` is that of a source file.
+fn has_no_other(names: &[String]) -> bool
+    ensures { result ≡ list_all (λ name. bytes_eq (string_bytes name) main_name || not (ends_in_i (string_bytes name))) names.now }
+{
+    names
+        .iter()
+        .all(|name| name.as_str() == MAIN || !is_source(name.as_str()))
+}
+
+/// Whether `main.i` is the one source file among these names.
+fn has_just_main(names: &[String]) -> bool
+    ensures { IsTrue result ↔ HasJustMain (map string_bytes names.now) }
+{
+    has_main(names) && has_no_other(names)
+}
+
+/// Finds and reads `main.i`.
+pub fn main_file<F: Folder>(alloc: Global, folder: &mut F) -> Result<MainFile, Stop>
+    ensures kept { F.told folder.new ≡ F.told folder.old }
+    ensures counted { F.faults folder.old ≤ F.faults folder.new }
+    ensures found { IfOk result (IsFound (F.told folder.old)) }
+    ensures fault { result ≡ Err Stop.ReadFault → Rose (F.faults folder.old) (F.faults folder.new) }
+{
+    let names = match folder.names(alloc) {
+        Ok(names) => names,
+        Err(NamesError::Failed) => return Err(Stop::ReadFault),
+        Err(NamesError::Memory) => return Err(Stop::OutOfMemory),
+    };
+    if !has_just_main(&names) {
+        return Ok(MainFile::Missing);
+    }
+    match read_all(alloc, folder, MAIN, MOST_BYTES) {
+        Ok(bytes) => Ok(MainFile::Read(bytes)),
+        Err(ReadError::TooLong) => Ok(MainFile::TooLarge),
+        Err(ReadError::Fault) => Err(Stop::ReadFault),
+        Err(ReadError::Memory) => Err(Stop::OutOfMemory),
+    }
+}
