@@ -1,0 +1,14 @@
+//! The tests of all crates, as tables, over public calls alone: the worked rows of the report, what fails
+//! at each call, and each public call once with ample memory.
+//!
+//! Expected values come from docs/STATES.md and docs/REPORT.md, worked out by hand.
+#![tactic(auto)]
+
+#[cfg(test)]
+mod faults;
+#[cfg(test)]
+mod project;
+#[cfg(test)]
+mod reports;
+#[cfg(test)]
+mod surface;

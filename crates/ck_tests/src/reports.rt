@@ -1,0 +1,157 @@
+//! The worked rows: files, and the reports that come.
+use crate::project::{checked, checked_main, empty_folder, folder_of, folder_with};
+use std::test::Fail;
+
+pub const DOUBLE_LOCK: &str =
+    "void chSysInit(void);\nvoid chSysLock(void);\nint main(void) {\n  chSysInit();\n  chSysLock();\n  chSysLock();\n}\n";
+
+const DOUBLE_LOCK_REPORT: &str =
+    "rtcheck 1\nrejected 1\nalarm 1 SV#4 main.i:6:3 chSysLock\nentry main\nsegment 1 [main]\n  enter main.i:3:5 main\nsegment 2 main\n  act main.i:4:3 chSysInit\n  act main.i:5:3 chSysLock\n  alarm\n";
+
+pub const LOCK_AND_UNLOCK: &str =
+    "void chSysInit(void);\nvoid chSysLock(void);\nvoid chSysUnlock(void);\nint main(void) {\n  chSysInit();\n  chSysLock();\n  chSysUnlock();\n}\n";
+
+pub const ACCEPTED: &str = "rtcheck 1\naccepted\nfiles 1 functions 1 entries 1\n";
+
+const SYNTAX: &str = "rtcheck 1\nunsupported U7 - syntax\n";
+
+const NO_MAIN: &str = "rtcheck 1\nunsupported U23 - main absent or of another type\n";
+
+const TOO_LARGE: &str = "rtcheck 1\nunsupported U25 main.i too large\n";
+
+#[test]
+fn files_and_their_reports(rt: HostRuntime) -> Result<(), Fail> {
+    let rows = [
+        (DOUBLE_LOCK, 1, DOUBLE_LOCK_REPORT),
+        (LOCK_AND_UNLOCK, 0, ACCEPTED),
+        ("int main(void){}", 0, ACCEPTED),
+        (
+            "void chSysInit(void);int\tmain(void){chSysInit();}",
+            0,
+            ACCEPTED,
+        ),
+        ("", 2, SYNTAX),
+        ("int x;", 2, SYNTAX),
+        ("int main(void) {", 2, SYNTAX),
+        ("int main(void) {} ;", 2, SYNTAX),
+        ("int main(void) { chSysInit(); }", 2, SYNTAX),
+        ("void chSysHalt(void); int main(void) {}", 2, SYNTAX),
+        ("voidchSysInit(void); int main(void) {}", 2, SYNTAX),
+        ("int main(void) {} void chSysInit(void);", 2, SYNTAX),
+        ("/* */ int main(void) {}", 2, SYNTAX),
+        ("int main(void) {}\r\n", 2, SYNTAX),
+        ("int main(void) {}\u{e9}", 2, SYNTAX),
+    ];
+    for (text, status, report) in rows {
+        let answer = checked_main(rt.alloc(), text.as_bytes())?;
+        assert_eq!(rt; answer.0, status, "at {text}");
+        assert_eq!(rt; answer.1.as_slice(), report.as_bytes(), "at {text}");
+    }
+    Ok(())
+}
+
+/// The prototypes of all six calls, on one line, and the line that opens `main`: so the n-th call below
+/// stands on line n + 2.
+const FRONT: &str =
+    "void chSysInit(void); void chSysDisable(void); void chSysSuspend(void); void chSysEnable(void); void chSysLock(void); void chSysUnlock(void);\nint main(void) {\n";
+
+#[test]
+fn walks_and_their_alarms(rt: HostRuntime) -> Result<(), Fail> {
+    let rows = [
+        (
+            "chSysInit();\nchSysLock();\nchSysDisable();\n}",
+            "SV#1 main.i:5:1 chSysDisable",
+        ),
+        (
+            "chSysInit();\nchSysLock();\nchSysSuspend();\n}",
+            "SV#2 main.i:5:1 chSysSuspend",
+        ),
+        (
+            "chSysInit();\nchSysLock();\nchSysEnable();\n}",
+            "SV#3 main.i:5:1 chSysEnable",
+        ),
+        (
+            "chSysInit();\n\tchSysLock(); chSysLock();\n}",
+            "SV#4 main.i:4:15 chSysLock",
+        ),
+        (
+            "chSysInit();\nchSysUnlock();\n}",
+            "SV#5 main.i:4:1 chSysUnlock",
+        ),
+        ("chSysUnlock();\n}", "SV#5 main.i:3:1 chSysUnlock"),
+        ("chSysLock();\n}", "P#4 main.i:3:1 chSysLock"),
+        ("chSysEnable();\n}", "P#4 main.i:3:1 chSysEnable"),
+        ("chSysInit(); chSysInit();\n}", "P#4 main.i:3:14 chSysInit"),
+        (
+            "chSysInit();\nchSysDisable();\nchSysLock();\n}",
+            "P#4 main.i:5:1 chSysLock",
+        ),
+        (
+            "chSysInit();\nchSysSuspend();\n\nchSysLock();\n}",
+            "P#4 main.i:6:1 chSysLock",
+        ),
+    ];
+    for (calls, alarm) in rows {
+        let text = format!(in rt.alloc(); "{FRONT}{calls}")?;
+        let answer = checked_main(rt.alloc(), text.as_bytes())?;
+        let front = format!(in rt.alloc(); "rtcheck 1\nrejected 1\nalarm 1 {alarm}\nentry main\n")?;
+        assert_eq!(rt; answer.0, 1, "at {calls}");
+        assert!(rt;
+            answer.1.as_slice().starts_with(front.as_bytes()),
+            "at {calls}"
+        );
+    }
+    Ok(())
+}
+
+#[test]
+fn walks_that_pass(rt: HostRuntime) -> Result<(), Fail> {
+    let rows = [
+        "}",
+        "chSysInit();\n}",
+        "chSysInit(); chSysDisable(); chSysSuspend(); chSysDisable(); chSysEnable(); chSysEnable();\n}",
+        "chSysInit(); chSysLock(); chSysUnlock(); chSysLock(); chSysUnlock();\n}",
+        "chSysInit(); chSysLock();\n}",
+    ];
+    for calls in rows {
+        let text = format!(in rt.alloc(); "{FRONT}{calls}")?;
+        let answer = checked_main(rt.alloc(), text.as_bytes())?;
+        assert_eq!(rt; answer.0, 0, "at {calls}");
+        assert_eq!(rt; answer.1.as_slice(), ACCEPTED.as_bytes(), "at {calls}");
+    }
+    Ok(())
+}
+
+#[test]
+fn folders_and_their_reports(rt: HostRuntime) -> Result<(), Fail> {
+    let alloc = rt.alloc();
+    let bytes = LOCK_AND_UNLOCK.as_bytes();
+    let rows = [
+        (empty_folder(alloc), 2, NO_MAIN),
+        (folder_of(alloc, "other.i", bytes, &[])?, 2, NO_MAIN),
+        (folder_of(alloc, "main.c", bytes, &[])?, 2, NO_MAIN),
+        (folder_with(alloc, bytes, "other.i")?, 2, NO_MAIN),
+        (folder_with(alloc, bytes, ".i")?, 2, NO_MAIN),
+        (folder_with(alloc, bytes, "i")?, 0, ACCEPTED),
+        (folder_with(alloc, bytes, "rtcheck.toml")?, 0, ACCEPTED),
+    ];
+    for (folder, status, report) in rows {
+        let mut folder = folder;
+        let answer = checked(alloc, &mut folder)?;
+        assert_eq!(rt; answer.0, status, "at {report}");
+        assert_eq!(rt; answer.1.as_slice(), report.as_bytes(), "at {report}");
+    }
+    Ok(())
+}
+
+#[test]
+fn the_greatest_file(rt: HostRuntime) -> Result<(), Fail> {
+    let rows = [(1_048_576, SYNTAX), (1_048_577, TOO_LARGE)];
+    for (length, report) in rows {
+        let bytes = vec![in rt.alloc(); b' '; length]?;
+        let answer = checked_main(rt.alloc(), &bytes)?;
+        assert_eq!(rt; answer.0, 2, "at {length}");
+        assert_eq!(rt; answer.1.as_slice(), report.as_bytes(), "at {length}");
+    }
+    Ok(())
+}
