@@ -4,7 +4,8 @@ use Rattle.std.proofs.lemmas.List.{drop-drop}
 use Rattle.std.proofs.Math.Seq.{drop-cons}
 use Rattle.std.proofs.lemmas.Bool.Decides.{nat_tests}
 use Rattle.std.specs.List.{prefix_len}
-use Rattle.ck_cli.specs.Tokens.{TokenText, is_blank, is_word_byte, begins_with_word, before, extended, front_of, tokens_from}
+use Rattle.ck_cli.specs.Cutting.{front_of}
+use Rattle.ck_cli.specs.Tokens.{TokenText, is_blank, is_word_byte, begins_with_word, before, extended, tokens_from}
 
 abbrev pub text_at : ℕ → List ℕ → TokenText
 text_at at text = record { start = at; text = text }

@@ -1,7 +1,8 @@
 -- The loop that cuts a file: the tokens kept so far, and those of what follows.
 use Rattle.std.proofs.Common.{◌≡◌, ℕ, ◌+◌, ◌<◌, ◌≤◌, true, false, List, ◌++◌, length, take, drop, get_or, map, sym, ap, ◌∙◌, arith, append_assoc}
 use Rattle.std.proofs.lemmas.List.{get_or-take, get_or-drop, length-take-le, length-drop}
-use Rattle.ck_cli.specs.Tokens.{is_blank, is_line_feed, front_of, moved_over, tokens_from, place_after}
+use Rattle.ck_cli.specs.Cutting.{front_of, moved_over}
+use Rattle.ck_cli.specs.Tokens.{is_blank, is_line_feed, tokens_from, place_after}
 use Rattle.ck_cli.specs.Lexemes.{token_in, with_token}
 use Rattle.std.proofs.lemmas.Bool.Decides.{nat_tests}
 use Rattle.ck_cli.proofs.PlaceLemmas.{place-at_line_feed, place-at_other}

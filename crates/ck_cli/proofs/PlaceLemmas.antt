@@ -5,7 +5,8 @@ use Rattle.std.proofs.Math.Seq.{drop-cons, take-suc, take-add}
 use Rattle.std.proofs.lemmas.List.Sums.{sum_by-append, count_by-le-length, prefix_len-le-length}
 use Rattle.std.proofs.lemmas.Bool.Decides.{nat_tests}
 use Rattle.std.specs.List.{prefix_len}
-use Rattle.ck_cli.specs.Tokens.{is_line_feed, front_of, is_no_line_feed, is_word_byte, place_after}
+use Rattle.ck_cli.specs.Cutting.{front_of}
+use Rattle.ck_cli.specs.Tokens.{is_line_feed, is_no_line_feed, is_word_byte, place_after}
 use Rattle.ck_cli.proofs.Cuts.{either, front-word, front-other}
 use Rattle.ck_cli.specs.declared.places.Place.{Place}
 

@@ -1,5 +1,5 @@
 -- What `rtcheck` answers: the words, the files of the folder, the status and the text.
--- docs/REPORT.md, "Statuses".
+-- docs/REPORT.md, "The statuses".
 use Rattle.std.specs.Prelude.{◌≡◌, ◌≤◌, ◌<◌, ◌⊎◌, ⊤, ℕ, Bool, IsTrue, nat_eq, List, [], ◌∷◌, length, take, codes, Option, Some, None, All, Contains, IfSome}
 use Rattle.std.specs.List.{ends_with}
 use Rattle.ck_base.specs.declared.refusals.Unsupported.TheVariants.{U23, U25}

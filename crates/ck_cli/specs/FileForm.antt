@@ -1,5 +1,5 @@
 -- The file form: any number of prototypes, then `main` with any number of calls, each of a call that has a
--- prototype. docs/REPORT.md, "The file form", has it in words.
+-- prototype. docs/REPORT.md, "The file that is read", has it in words.
 use Rattle.std.specs.Prelude.{◌≡◌, ℕ, ◌+◌, ◌*◌, List, [], ◌∷◌, ◌++◌, map, length, codes, slice_index, All, Contains}
 use Rattle.std.specs.List.{flat_map}
 use Rattle.ck_cli.specs.declared.calls.KernelCall.{KernelCall}

@@ -1,4 +1,5 @@
--- What each token of the file form is.
+-- What the code keeps of a token. Private contracts alone speak of it; proofs/Kept.antt and proofs/LexemeLemmas.antt join it
+-- with Tokens and FileForm.
 use Rattle.std.specs.Prelude.{ℕ, List, [], ◌∷◌, ◌++◌, codes, find, slice_index, if◌then◌else◌}
 use Rattle.std.specs.Option.{option_map_or}
 use Rattle.std.specs.Str.{bytes_eq}

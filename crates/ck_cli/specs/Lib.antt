@@ -12,3 +12,4 @@ pub mod Walked
 pub mod Door
 pub mod MainFile
 pub mod Statuses
+pub mod Cutting

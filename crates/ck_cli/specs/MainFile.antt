@@ -1,4 +1,4 @@
--- What was found of main.i in a folder.
+-- What was found of main.i in a folder. Private contracts alone speak of it; proofs/AnswerLemmas.antt joins it with Door.
 use Rattle.std.specs.Prelude.{◌≡◌, ◌≤◌, ◌<◌, ℕ, List, length, Option, Some}
 use Rattle.ck_io.specs.Outside.{Files, names_of, bytes_of}
 use Rattle.ck_cli.specs.declared.project.MainFile.{MainFile}

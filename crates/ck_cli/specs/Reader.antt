@@ -1,4 +1,5 @@
--- How the file form is read from its tokens, from the front.
+-- How the file form is read from its tokens, from the front. Private contracts alone speak of it; proofs/FormWhole.antt and
+-- proofs/FormComplete.antt join it with FileForm, in both directions.
 use Rattle.std.specs.Prelude.{Bool, true, false, ◌&&◌, List, [], ◌∷◌, Option, Some, None, if◌then◌else◌}
 use Rattle.std.specs.Option.{option_map}
 use Rattle.std.specs.List.{list_all}

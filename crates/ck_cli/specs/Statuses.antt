@@ -1,4 +1,4 @@
--- The exit statuses. docs/REPORT.md, "Statuses", has the same rows.
+-- The exit statuses. docs/REPORT.md, "The statuses", has the same rows.
 use Rattle.std.specs.Prelude.{ℕ}
 use Rattle.ck_cli.specs.declared.statuses.Status.{Status}
 use Rattle.ck_cli.specs.declared.statuses.Status.TheVariants.{Accepted, Rejected, Unsupported, Usage, ReadFault, WriteFault, OutOfMemory}

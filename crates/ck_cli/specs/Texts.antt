@@ -1,4 +1,4 @@
--- The texts of the report. docs/REPORT.md, "The texts", has them with examples.
+-- The texts of the report. docs/REPORT.md has them with examples.
 use Rattle.std.specs.Prelude.{ℕ, List, [], ◌∷◌, ◌++◌, codes}
 use Rattle.std.specs.List.{flat_map}
 use Rattle.std.specs.Fmt.{decimal}

@@ -1,9 +1,8 @@
--- The tokens of a file of the first form, and the places in it (C99 6.4: each token is the longest that its
--- bytes make). A token is a run of letters, digits and underscores, or one other byte; spaces, tabs and line feeds
--- part tokens and are none. A reader goes from the file's end to its front: each byte stands before the tokens
--- of what follows it.
-use Rattle.std.specs.Prelude.{ℕ, suc, ◌+◌, max, Bool, false, ◌||◌, ◌&&◌, not, ◌==◌, nat_le, List, [], ◌∷◌, take, length, slice_index, count_by, if◌then◌else◌}
-use Rattle.std.specs.List.{prefix_len, suffix_len}
+-- The tokens of a file, and the places in it. A token is a run of letters, digits and underscores, as long as it can be
+-- (C99 6.4), or one other byte; spaces, tabs and line feeds part tokens and are none. The definition goes from the file's
+-- end to its front: each byte stands before the tokens of what follows it.
+use Rattle.std.specs.Prelude.{ℕ, suc, ◌+◌, Bool, false, ◌||◌, ◌&&◌, not, ◌==◌, nat_le, List, [], ◌∷◌, take, count_by, if◌then◌else◌}
+use Rattle.std.specs.List.{suffix_len}
 use Rattle.ck_cli.specs.declared.places.Place.{Place}
 
 pub record TokenText : Type 0 where
@@ -38,10 +37,7 @@ abbrev pub tokens_from : ℕ → List ℕ → List TokenText
 tokens_from at [] = []
 tokens_from at (b ∷ bytes) = before at b bytes (tokens_from (suc at) bytes)
 
--- how long the token or the blank at the front of some bytes is
-abbrev pub front_of : List ℕ → ℕ
-front_of bytes = max (prefix_len is_word_byte bytes) 1
-
+-- the tokens of a file
 abbrev pub tokens_of : List ℕ → List TokenText
 tokens_of bytes = tokens_from 0 bytes
 
@@ -59,9 +55,3 @@ place_after bytes = record { line = count_by is_line_feed bytes + 1; column = su
 -- the place of the byte at an offset
 abbrev pub place_at : List ℕ → ℕ → Place
 place_at bytes offset = place_after (take offset bytes)
-
--- the place after a token or a blank that begins at a place
-abbrev pub moved_over : List ℕ → Place → Place
-moved_over text place =
-    if is_line_feed (slice_index text 0) then record { line = place.line + 1; column = 1 }
-    else record { line = place.line; column = place.column + length text }

@@ -1,4 +1,4 @@
--- What the bytes of main.i are answered: a status and a text. docs/REPORT.md, "Statuses".
+-- What the bytes of main.i are answered: a status and a text. docs/REPORT.md, "The statuses".
 use Rattle.std.specs.Prelude.{ℕ, List, codes}
 use Rattle.ck_base.specs.declared.states.Kind.{Kind}
 use Rattle.ck_base.specs.declared.refusals.Unsupported.TheVariants.{U7}

@@ -1,4 +1,5 @@
--- What a file of the form is answered, by the walk from its front.
+-- What a file of the form is answered, by the walk from its front. Private contracts alone speak of it;
+-- proofs/VerdictLemmas.antt joins it with Verdict.
 use Rattle.std.specs.Prelude.{◌≡◌, ℕ, List, [], Option, Some, None}
 use Rattle.ck_base.specs.declared.states.Kind.{Kind}
 use Rattle.ck_base.specs.declared.states.State.TheVariants.{TI}

@@ -1,4 +1,5 @@
--- The walk from its front: the first alarm, with the calls before it.
+-- The walk from its front: the first alarm, with the calls before it. Private contracts alone speak of it;
+-- proofs/WalkLemmas.antt joins it with Walk.
 use Rattle.std.specs.Prelude.{List, [], ◌∷◌, ◌++◌, Option, Some, None}
 use Rattle.ck_base.specs.declared.states.State.{State}
 use Rattle.ck_base.specs.declared.states.Kind.{Kind}

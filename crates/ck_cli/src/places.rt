@@ -9,7 +9,7 @@ pub struct Place {
 }
 
 impl Place {
-    ghost use Rattle.ck_cli.specs.Tokens.{moved_over};
+    ghost use Rattle.ck_cli.specs.Cutting.{moved_over};
 
     /// A file's first place.
     pub(crate) const START: Place = Place { line: 1, column: 1 };

@@ -1,7 +1,8 @@
 //! The tokens of a file, with their places.
 ghost use Rattle.std.specs.Prelude.{◌≡◌, ◌<◌, ◌≤◌, length, map, IfOk, OnOk};
 ghost use Rattle.std.specs.List.{prefix_len};
-ghost use Rattle.ck_cli.specs.Tokens.{is_blank as blank, is_word_byte as word_byte, front_of, tokens_of};
+ghost use Rattle.ck_cli.specs.Cutting.{front_of};
+ghost use Rattle.ck_cli.specs.Tokens.{is_blank as blank, is_word_byte as word_byte, tokens_of};
 ghost use Rattle.ck_cli.specs.Lexemes.{token_in, with_token};
 
 use crate::lexemes::{Lexeme, lexeme_for};

@@ -19,30 +19,31 @@ const NO_MAIN: &str = "rtcheck 1\nunsupported U23 - main absent or of another ty
 
 const TOO_LARGE: &str = "rtcheck 1\nunsupported U25 main.i too large\n";
 
+const FILES: [(&str, u8, &str); 15] = [
+    (DOUBLE_LOCK, 1, DOUBLE_LOCK_REPORT),
+    (LOCK_AND_UNLOCK, 0, ACCEPTED),
+    ("int main(void){}", 0, ACCEPTED),
+    (
+        "void chSysInit(void);int\tmain(void){chSysInit();}",
+        0,
+        ACCEPTED,
+    ),
+    ("", 2, SYNTAX),
+    ("int x;", 2, SYNTAX),
+    ("int main(void) {", 2, SYNTAX),
+    ("int main(void) {} ;", 2, SYNTAX),
+    ("int main(void) { chSysInit(); }", 2, SYNTAX),
+    ("void chSysHalt(void); int main(void) {}", 2, SYNTAX),
+    ("voidchSysInit(void); int main(void) {}", 2, SYNTAX),
+    ("int main(void) {} void chSysInit(void);", 2, SYNTAX),
+    ("/* */ int main(void) {}", 2, SYNTAX),
+    ("int main(void) {}\r\n", 2, SYNTAX),
+    ("int main(void) {}\u{e9}", 2, SYNTAX),
+];
+
 #[test]
 fn files_and_their_reports(rt: HostRuntime) -> Result<(), Fail> {
-    let rows = [
-        (DOUBLE_LOCK, 1, DOUBLE_LOCK_REPORT),
-        (LOCK_AND_UNLOCK, 0, ACCEPTED),
-        ("int main(void){}", 0, ACCEPTED),
-        (
-            "void chSysInit(void);int\tmain(void){chSysInit();}",
-            0,
-            ACCEPTED,
-        ),
-        ("", 2, SYNTAX),
-        ("int x;", 2, SYNTAX),
-        ("int main(void) {", 2, SYNTAX),
-        ("int main(void) {} ;", 2, SYNTAX),
-        ("int main(void) { chSysInit(); }", 2, SYNTAX),
-        ("void chSysHalt(void); int main(void) {}", 2, SYNTAX),
-        ("voidchSysInit(void); int main(void) {}", 2, SYNTAX),
-        ("int main(void) {} void chSysInit(void);", 2, SYNTAX),
-        ("/* */ int main(void) {}", 2, SYNTAX),
-        ("int main(void) {}\r\n", 2, SYNTAX),
-        ("int main(void) {}\u{e9}", 2, SYNTAX),
-    ];
-    for (text, status, report) in rows {
+    for (text, status, report) in FILES {
         let answer = checked_main(rt.alloc(), text.as_bytes())?;
         assert_eq!(rt; answer.0, status, "at {text}");
         assert_eq!(rt; answer.1.as_slice(), report.as_bytes(), "at {text}");
@@ -55,43 +56,44 @@ fn files_and_their_reports(rt: HostRuntime) -> Result<(), Fail> {
 const FRONT: &str =
     "void chSysInit(void); void chSysDisable(void); void chSysSuspend(void); void chSysEnable(void); void chSysLock(void); void chSysUnlock(void);\nint main(void) {\n";
 
+const ALARMS: [(&str, &str); 11] = [
+    (
+        "chSysInit();\nchSysLock();\nchSysDisable();\n}",
+        "SV#1 main.i:5:1 chSysDisable",
+    ),
+    (
+        "chSysInit();\nchSysLock();\nchSysSuspend();\n}",
+        "SV#2 main.i:5:1 chSysSuspend",
+    ),
+    (
+        "chSysInit();\nchSysLock();\nchSysEnable();\n}",
+        "SV#3 main.i:5:1 chSysEnable",
+    ),
+    (
+        "chSysInit();\n\tchSysLock(); chSysLock();\n}",
+        "SV#4 main.i:4:15 chSysLock",
+    ),
+    (
+        "chSysInit();\nchSysUnlock();\n}",
+        "SV#5 main.i:4:1 chSysUnlock",
+    ),
+    ("chSysUnlock();\n}", "SV#5 main.i:3:1 chSysUnlock"),
+    ("chSysLock();\n}", "P#4 main.i:3:1 chSysLock"),
+    ("chSysEnable();\n}", "P#4 main.i:3:1 chSysEnable"),
+    ("chSysInit(); chSysInit();\n}", "P#4 main.i:3:14 chSysInit"),
+    (
+        "chSysInit();\nchSysDisable();\nchSysLock();\n}",
+        "P#4 main.i:5:1 chSysLock",
+    ),
+    (
+        "chSysInit();\nchSysSuspend();\n\nchSysLock();\n}",
+        "P#4 main.i:6:1 chSysLock",
+    ),
+];
+
 #[test]
 fn walks_and_their_alarms(rt: HostRuntime) -> Result<(), Fail> {
-    let rows = [
-        (
-            "chSysInit();\nchSysLock();\nchSysDisable();\n}",
-            "SV#1 main.i:5:1 chSysDisable",
-        ),
-        (
-            "chSysInit();\nchSysLock();\nchSysSuspend();\n}",
-            "SV#2 main.i:5:1 chSysSuspend",
-        ),
-        (
-            "chSysInit();\nchSysLock();\nchSysEnable();\n}",
-            "SV#3 main.i:5:1 chSysEnable",
-        ),
-        (
-            "chSysInit();\n\tchSysLock(); chSysLock();\n}",
-            "SV#4 main.i:4:15 chSysLock",
-        ),
-        (
-            "chSysInit();\nchSysUnlock();\n}",
-            "SV#5 main.i:4:1 chSysUnlock",
-        ),
-        ("chSysUnlock();\n}", "SV#5 main.i:3:1 chSysUnlock"),
-        ("chSysLock();\n}", "P#4 main.i:3:1 chSysLock"),
-        ("chSysEnable();\n}", "P#4 main.i:3:1 chSysEnable"),
-        ("chSysInit(); chSysInit();\n}", "P#4 main.i:3:14 chSysInit"),
-        (
-            "chSysInit();\nchSysDisable();\nchSysLock();\n}",
-            "P#4 main.i:5:1 chSysLock",
-        ),
-        (
-            "chSysInit();\nchSysSuspend();\n\nchSysLock();\n}",
-            "P#4 main.i:6:1 chSysLock",
-        ),
-    ];
-    for (calls, alarm) in rows {
+    for (calls, alarm) in ALARMS {
         let text = format!(in rt.alloc(); "{FRONT}{calls}")?;
         let answer = checked_main(rt.alloc(), text.as_bytes())?;
         let front = format!(in rt.alloc(); "rtcheck 1\nrejected 1\nalarm 1 {alarm}\nentry main\n")?;
@@ -104,16 +106,17 @@ fn walks_and_their_alarms(rt: HostRuntime) -> Result<(), Fail> {
     Ok(())
 }
 
+const PASSING: [&str; 5] = [
+    "}",
+    "chSysInit();\n}",
+    "chSysInit(); chSysDisable(); chSysSuspend(); chSysDisable(); chSysEnable(); chSysEnable();\n}",
+    "chSysInit(); chSysLock(); chSysUnlock(); chSysLock(); chSysUnlock();\n}",
+    "chSysInit(); chSysLock();\n}",
+];
+
 #[test]
 fn walks_that_pass(rt: HostRuntime) -> Result<(), Fail> {
-    let rows = [
-        "}",
-        "chSysInit();\n}",
-        "chSysInit(); chSysDisable(); chSysSuspend(); chSysDisable(); chSysEnable(); chSysEnable();\n}",
-        "chSysInit(); chSysLock(); chSysUnlock(); chSysLock(); chSysUnlock();\n}",
-        "chSysInit(); chSysLock();\n}",
-    ];
-    for calls in rows {
+    for calls in PASSING {
         let text = format!(in rt.alloc(); "{FRONT}{calls}")?;
         let answer = checked_main(rt.alloc(), text.as_bytes())?;
         assert_eq!(rt; answer.0, 0, "at {calls}");
