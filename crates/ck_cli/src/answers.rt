@@ -19,7 +19,7 @@ use ck_io::Folder;
 use std::alloc::Global;
 
 /// A status and a text.
-#[derive(Debug, Drop)]
+#[derive(Drop)]
 pub struct Answer {
     pub status: Status,
     pub text: String,

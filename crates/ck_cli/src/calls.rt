@@ -6,7 +6,7 @@ ghost use Rattle.ck_cli.specs.Calls.{every_call, name_of, op_of};
 use ck_base::Op;
 
 /// A kernel call that the file form allows.
-#[derive(Clone, Copy, Debug, PartialEq, Eq)]
+#[derive(Clone, Copy)]
 pub enum KernelCall {
     Init,
     Disable,

@@ -22,21 +22,21 @@ use ck_base::OutOfMemory;
 use std::alloc::Global;
 
 /// A call that `main` makes, and its place.
-#[derive(Clone, Copy, Debug, PartialEq, Eq)]
+#[derive(Clone, Copy)]
 pub struct Call {
     pub call: KernelCall,
     pub place: Place,
 }
 
 /// A file of the form: where its `main` stands, and the calls that it makes.
-#[derive(Debug, Drop)]
+#[derive(Drop)]
 pub struct Form {
     pub main: Place,
     pub calls: Vec<Call>,
 }
 
 /// Which calls have a prototype.
-#[derive(Clone, Copy, Debug, PartialEq, Eq)]
+#[derive(Clone, Copy)]
 pub struct Declared {
     pub init: bool,
     pub disable: bool,

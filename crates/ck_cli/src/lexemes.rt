@@ -5,7 +5,7 @@ ghost use Rattle.ck_cli.specs.Lexemes.{lexeme_of};
 use crate::calls::{KernelCall, call_named};
 
 /// A token of the file form, or any other.
-#[derive(Clone, Copy, Debug, PartialEq, Eq)]
+#[derive(Clone, Copy)]
 pub enum Lexeme {
     Void,
     Int,

@@ -16,7 +16,7 @@ const MAIN: &str = "main.i";
 const MOST_BYTES: u32 = 1_048_576;
 
 /// What a folder has of the file that is checked.
-#[derive(Debug, Drop)]
+#[derive(Drop)]
 pub enum MainFile {
     /// Its source files aren't just `main.i`.
     Missing,
@@ -27,7 +27,7 @@ pub enum MainFile {
 }
 
 /// Why there is no answer.
-#[derive(Clone, Copy, Debug, PartialEq, Eq)]
+#[derive(Clone, Copy)]
 pub enum Stop {
     /// A call on the folder failed.
     ReadFault,

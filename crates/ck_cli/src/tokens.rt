@@ -11,7 +11,7 @@ use ck_base::OutOfMemory;
 use std::alloc::Global;
 
 /// A token, and the place of its first byte.
-#[derive(Clone, Copy, Debug, PartialEq, Eq)]
+#[derive(Clone, Copy)]
 pub struct Token {
     pub lexeme: Lexeme,
     pub place: Place,

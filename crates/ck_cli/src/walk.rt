@@ -10,7 +10,7 @@ use ck_base::{Kind, Outcome, State};
 use ck_states::act;
 
 /// The first call that alarms, with the calls before it and the alarm's kind.
-#[derive(Clone, Copy, Debug)]
+#[derive(Clone, Copy)]
 pub struct FirstAlarm<'a> {
     pub before: &'a [Call],
     pub call: Call,
