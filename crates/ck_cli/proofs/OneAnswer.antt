@@ -1,5 +1,5 @@
 -- No bytes and no files have two answers.
-use Rattle.std.proofs.Common.{◌≡◌, ℕ, ◌≤◌, ◌<◌, List, length, Option, Some, refl, sym, ap, ◌∙◌, subst, arith}
+use Rattle.std.proofs.Common.{◌≡◌, ℕ, None, ◌≤◌, ◌<◌, List, length, Option, Some, refl, sym, ap, ◌∙◌, subst, arith}
 use Rattle.ck_base.specs.declared.states.Kind.{Kind}
 use Rattle.ck_io.specs.Outside.{Files, bytes_of}
 use Rattle.ck_cli.specs.declared.form.Call.{Call}
@@ -8,7 +8,7 @@ use Rattle.ck_cli.specs.FileForm.{FileForm, Spells, main_place, placed_calls}
 use Rattle.ck_cli.specs.Walk.{Alarms, Passes}
 use Rattle.ck_cli.specs.Texts.{rejected_text}
 use Rattle.ck_cli.specs.Verdict.{IsVerdict, accepted, rejected, unreadable}
-use Rattle.ck_cli.specs.Door.{IsAnswer, no_main, too_large, judged, Answers, HaveOneAnswer, main_name, most_bytes}
+use Rattle.ck_cli.specs.Door.{IsAnswer, no_main, too_large, judged, Answers, HaveOneAnswer, IsOnlyAnswer, main_name, most_bytes}
 use Rattle.ck_cli.proofs.FormWhole.{whole-parts}
 use Rattle.ck_cli.proofs.FormComplete.{read_form-complete}
 use Rattle.ck_cli.proofs.WalkLemmas.{Alarms-one}
@@ -73,3 +73,8 @@ low_answer files s a (judged just bytes of_main short verdict) = low_verdict byt
 
 pub low_status : (told : Option Files) (s : ℕ) (a : List ℕ) → Answers told s a → s ≤ 2
 low_status told s a answers = low_answer answers.files s a answers.answer
+
+-- an answer to told files is their only one
+pub only_answer : (told : Option Files) (s : ℕ) (a : List ℕ) → Answers told s a → IsOnlyAnswer told s
+only_answer None s a answers = tt
+only_answer (Some files) s a answers = λ other text is. (one_answer files other s text a is (subst (λ fs. IsAnswer fs s a) answers.told_files answers.answer)).0

@@ -63,6 +63,10 @@ pub record ReportsPartly (told : Option Files) (before after : Option (List ℕ)
 abbrev pub KernelIsQuietOn : Option Files → Type 0
 KernelIsQuietOn told = IfSome told (λ files. IfSome (bytes_of files main_name) KernelIsQuiet)
 
+-- where files are told, they are answered by this status alone
+abbrev pub IsOnlyAnswer : Option Files → ℕ → Type 0
+IsOnlyAnswer told status = IfSome told (λ files. (other : ℕ) (text : List ℕ) → IsAnswer files other text → other ≡ status)
+
 -- the statuses that write nothing
 abbrev pub IsSilent : ℕ → Type 0
 IsSilent status = (status ≡ 3) ⊎ (status ≡ 5) ⊎ (status ≡ 7)

@@ -11,7 +11,7 @@
 
 ghost use Rattle.std.specs.Prelude.{◌≡◌, ◌≢◌, ◌≤◌, ◌↔◌, IsTrue, map, string_bytes};
 ghost use Rattle.ck_io.specs.Outside.{Rose};
-ghost use Rattle.ck_cli.specs.Door.{IsCheck, IsSilent, KernelIsQuietOn, Reports, ReportsPartly};
+ghost use Rattle.ck_cli.specs.Door.{IsCheck, IsOnlyAnswer, IsSilent, KernelIsQuietOn, Reports, ReportsPartly};
 
 mod answers;
 mod calls;
@@ -72,8 +72,10 @@ pub fn rtcheck<F: Folder, K: Sink>(
     ensures write_fault { result ≡ 6 → Rose (K.faults sink.old) (K.faults sink.new) }
     ensures unwritten { IsSilent result → sink.new ≡ sink.old }
 
-    // 0, 1 and 2 are what the folder's files are answered, with the whole text; 6 with a front of one.
+    // 0, 1 and 2 are what the folder's files are answered, with the whole text, and each comes exactly
+    // where the definitions give it, since no files have two answers; at 6 there is a front of the text.
     ensures reports { result ≤ 2 → Reports (F.told folder.old) (K.taken sink.old) (K.taken sink.new) result }
+    ensures only { result ≤ 2 → IsOnlyAnswer (F.told folder.old) result }
     ensures partly { result ≡ 6 → ReportsPartly (F.told folder.old) (K.taken sink.old) (K.taken sink.new) }
 
     // 0 implies that the kernel's own checks halt nowhere on the file's calls.

@@ -1,5 +1,5 @@
 //! What fails, at each call: words, folders and sinks.
-use crate::project::{AMPLE, checked, folder_of, words_of};
+use crate::project::{AMPLE, folder_of, words_of};
 use crate::reports::{ACCEPTED, LOCK_AND_UNLOCK};
 use ck_cli::rtcheck;
 use ck_io::MemorySink;
@@ -26,45 +26,40 @@ fn words_that_are_no_command(rt: HostRuntime) -> Result<(), Fail> {
     Ok(())
 }
 
-/// The calls on the folder are one for the names, one for the bytes and one that meets their end.
-#[test]
-fn each_call_on_the_folder(rt: HostRuntime) -> Result<(), Fail> {
-    let rows = [(1, 5, ""), (2, 5, ""), (3, 5, ""), (4, 0, ACCEPTED)];
-    for (call, status, report) in rows {
-        let mut folder = folder_of(rt.alloc(), "main.i", LOCK_AND_UNLOCK.as_bytes(), &[call])?;
-        let answer = checked(rt.alloc(), &mut folder)?;
-        assert_eq!(rt; answer.0, status, "at {call}");
-        assert_eq!(rt; answer.1.as_slice(), report.as_bytes(), "at {call}");
-    }
-    Ok(())
-}
+/// A call on the folder that fails, a write that fails, and what comes: the status and what the sink
+/// took. No call has the number 0.
+///
+/// The calls on the folder are one for the names, one for the bytes and one that meets their end. At 8
+/// bytes a write, the text of 49 bytes takes 7 writes.
+const FAILING: [(u64, u64, u8, &str); 11] = [
+    (1, 0, 5, ""),
+    (2, 0, 5, ""),
+    (3, 0, 5, ""),
+    (0, 1, 6, ""),
+    (0, 2, 6, "rtcheck "),
+    (0, 3, 6, "rtcheck 1\naccept"),
+    (0, 4, 6, "rtcheck 1\naccepted\nfiles"),
+    (0, 5, 6, "rtcheck 1\naccepted\nfiles 1 funct"),
+    (0, 6, 6, "rtcheck 1\naccepted\nfiles 1 functions 1 e"),
+    (
+        0,
+        7,
+        6,
+        "rtcheck 1\naccepted\nfiles 1 functions 1 entries 1",
+    ),
+    (4, 8, 0, ACCEPTED),
+];
 
-/// Writes of 8 bytes at most: a text of 49 bytes takes 7 of them, and a write that fails leaves what
-/// those before it wrote.
 #[test]
-fn each_write_to_the_sink(rt: HostRuntime) -> Result<(), Fail> {
+fn each_failing_call(rt: HostRuntime) -> Result<(), Fail> {
     let alloc = rt.alloc();
-    let rows = [
-        (1, 6, ""),
-        (2, 6, "rtcheck "),
-        (3, 6, "rtcheck 1\naccept"),
-        (4, 6, "rtcheck 1\naccepted\nfiles"),
-        (5, 6, "rtcheck 1\naccepted\nfiles 1 funct"),
-        (6, 6, "rtcheck 1\naccepted\nfiles 1 functions 1 e"),
-        (7, 6, "rtcheck 1\naccepted\nfiles 1 functions 1 entries 1"),
-        (8, 0, ACCEPTED),
-    ];
-    for (call, status, report) in rows {
+    for (call, write, status, report) in FAILING {
         let words = words_of(alloc, &["rtcheck", "check"])?;
-        let mut folder = folder_of(alloc, "main.i", LOCK_AND_UNLOCK.as_bytes(), &[])?;
-        let fail = Vec::from_slice(alloc, &[call])?;
-        let mut sink = MemorySink::new(alloc, AMPLE, 8, fail)?;
-        assert_eq!(rt;
-            rtcheck(alloc, &words, &mut folder, &mut sink),
-            status,
-            "at {call}"
-        );
-        assert_eq!(rt; sink.taken(), report.as_bytes(), "at {call}");
+        let mut folder = folder_of(alloc, "main.i", LOCK_AND_UNLOCK.as_bytes(), &[call])?;
+        let mut sink = MemorySink::new(alloc, AMPLE, 8, Vec::from_slice(alloc, &[write])?)?;
+        let answer = rtcheck(alloc, &words, &mut folder, &mut sink);
+        assert_eq!(rt; answer, status, "at {call} and {write}");
+        assert_eq!(rt; sink.taken(), report.as_bytes(), "at {call} and {write}");
     }
     Ok(())
 }

@@ -1,6 +1,7 @@
-use Rattle.std.proofs.Common.{◌≤◌, string_bytes, arith}
+use Rattle.std.proofs.Common.{◌≤◌, string_bytes, arith, subst, sym}
+use Rattle.ck_cli.specs.Door.{IsOnlyAnswer}
 use Rattle.ck_cli.specs.Statuses.{status_code}
-use Rattle.ck_cli.proofs.OneAnswer.{low_status}
+use Rattle.ck_cli.proofs.OneAnswer.{low_status, only_answer}
 use Rattle.ck_cli.proofs.WordLemmas.{low_is_not_silent}
 use Rattle.ck_cli.proofs.rtcheck.Goals as goal
 
@@ -24,3 +25,8 @@ pub returns-in-Ok-write_all-clause-unwritten : goal.returns-in-Ok-write_all-clau
 returns-in-Ok-write_all-clause-unwritten g c silent =
     let low : c.code-in-Ok-write_all.result ≤ 2 = omega (arith, low_status (g.F.Folder.told c.args.folder.now) (status_code c.in-Ok.answer.status) (string_bytes c.in-Ok.answer.text) c.in-Ok.ensures.answers) in
     absurd (low_is_not_silent c.code-in-Ok-write_all.result low silent)
+
+pub returns-in-Ok-write_all-clause-only : goal.returns-in-Ok-write_all-clause-only
+returns-in-Ok-write_all-clause-only g c low =
+    let told = g.F.Folder.told c.args.folder.now in
+    subst (IsOnlyAnswer told) (sym c.code-in-Ok-write_all.ensures) (only_answer told (status_code c.in-Ok.answer.status) (string_bytes c.in-Ok.answer.text) c.in-Ok.ensures.answers)
