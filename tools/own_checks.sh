@@ -2,6 +2,7 @@
 # Our own checks, which the gate runs after `rt ci`:
 #
 # - each example: the built program, run in its folder, writes the folder's `report` byte for byte and ends with its status;
+# - the lines on standard error and the statuses of words that are no command and of a file that can't be read;
 # - no .rt or .antt file of the repository has more than 800 lines.
 #
 # It takes the program that `rt ci` or `rt run` left, and builds it where there is none or where that one is older than its
@@ -12,7 +13,22 @@ cd "$top"
 failed=0
 
 said=$(mktemp)
-trap 'rm -f "$said"' EXIT
+bare=$(mktemp -d)
+trap 'rm -rf "$said" "$bare"' EXIT
+
+stops() { # stops STATUS LINE WORD..: in the folder $bare, the program writes no report, says LINE and ends with STATUS
+  wanted=$1 line=$2
+  shift 2
+  status=0
+  (cd "$bare" && "$program" "$@") > "$bare/report" 2> "$said" || status=$?
+  if [ "$status" -eq "$wanted" ] && [ ! -s "$bare/report" ] && [ "$(cat "$said")" = "$line" ]; then
+    echo "own check: '$line', status $status"
+  else
+    failed=$((failed + 1))
+    echo "own check: FAILED: wanted '$line' and status $wanted, got status $status and"
+    cat "$said"
+  fi
+}
 if program=$(tools/build.sh); then
   for folder in examples/*/; do
     folder=${folder%/}
@@ -24,6 +40,11 @@ if program=$(tools/build.sh); then
       cat "$said"
     fi
   done
+  program=$(cd "$(dirname "$program")" && pwd)/$(basename "$program")
+  mkdir "$bare/main.i"
+  stops 3 'usage: rtcheck check'
+  stops 3 'usage: rtcheck check' check check
+  stops 5 'rtcheck: read fault' check
 else
   failed=$((failed + 1))
   echo "own check: FAILED: there is no program to run the examples with"
