@@ -15,4 +15,5 @@ pub mod VerdictLemmas
 pub mod ProjectLemmas
 pub mod AnswerLemmas
 pub mod OneAnswer
+pub mod Quiet
 pub mod WordLemmas

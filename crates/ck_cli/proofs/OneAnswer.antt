@@ -14,7 +14,7 @@ use Rattle.ck_cli.proofs.FormComplete.{read_form-complete}
 use Rattle.ck_cli.proofs.WalkLemmas.{Alarms-one}
 
 -- two forms of the same bytes have the same places
-same_form : (bytes : List ℕ) (f g : FileForm) → Spells f bytes → Spells g bytes → (main_place f bytes ≡ main_place g bytes) × (placed_calls f bytes ≡ placed_calls g bytes)
+pub same_form : (bytes : List ℕ) (f g : FileForm) → Spells f bytes → Spells g bytes → (main_place f bytes ≡ main_place g bytes) × (placed_calls f bytes ≡ placed_calls g bytes)
 same_form bytes f g spells_f spells_g =
     whole-parts (main_place f bytes) (main_place g bytes) (placed_calls f bytes) (placed_calls g bytes) (sym (read_form-complete bytes f spells_f) ∙ read_form-complete bytes g spells_g)
 

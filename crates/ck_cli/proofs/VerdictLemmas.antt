@@ -1,29 +1,24 @@
 -- What the reader and the walk found is what the bytes are answered.
-use Rattle.std.proofs.Common.{◌≡◌, ℕ, ◌+◌, ◌*◌, List, [], ◌∷◌, length, map, Option, Some, None, refl, sym, ap, ◌∙◌, subst}
+use Rattle.std.proofs.Common.{◌≡◌, ℕ, List, [], map, Option, Some, None, refl, sym, ap, ◌∙◌, subst}
 use Rattle.std.specs.Prelude.{codes}
 use Rattle.ck_base.specs.declared.refusals.Unsupported.TheVariants.{U7}
 use Rattle.ck_base.specs.declared.states.Kind.{Kind}
 use Rattle.ck_base.specs.declared.states.State.TheVariants.{TI}
-use Rattle.ck_base.specs.Counters.{counters_of}
-use Rattle.ck_cli.specs.declared.calls.KernelCall.{KernelCall}
 use Rattle.ck_cli.specs.declared.form.Call.{Call}
 use Rattle.ck_cli.specs.declared.places.Place.{Place}
 use Rattle.ck_cli.specs.declared.tokens.Token.{Token}
-use Rattle.ck_cli.specs.Calls.{op_of}
 use Rattle.ck_cli.specs.Tokens.{tokens_of}
 use Rattle.ck_cli.specs.Lexemes.{token_in}
 use Rattle.ck_cli.specs.Reader.{read_form}
-use Rattle.ck_cli.specs.FileForm.{FileForm, Spells, main_place, placed_calls, calls_from}
+use Rattle.ck_cli.specs.FileForm.{FileForm, Spells, main_place, placed_calls}
 use Rattle.ck_cli.specs.Walk.{Alarms, Passes}
 use Rattle.ck_cli.specs.Walking.{walk}
 use Rattle.ck_cli.specs.Walked.{answered_by}
-use Rattle.ck_cli.specs.Kernel.{HaltsNowhere, KernelIsQuiet}
 use Rattle.ck_cli.specs.Texts.{rejected_text, unsupported_text}
 use Rattle.ck_cli.specs.Verdict.{IsVerdict, accepted, rejected, unreadable}
-use Rattle.ck_cli.proofs.FormWhole.{IsRead, whole, whole-parts, read_form-sound}
-use Rattle.ck_cli.proofs.FormComplete.{read_form-complete, unread_is_no_form}
+use Rattle.ck_cli.proofs.FormWhole.{IsRead, whole, read_form-sound}
+use Rattle.ck_cli.proofs.FormComplete.{unread_is_no_form}
 use Rattle.ck_cli.proofs.WalkLemmas.{Alarms-from_walk, Passes-from_walk}
-use Rattle.ck_cli.proofs.KernelLemmas.{halts_nowhere}
 
 pub unreadable_verdict : (bytes : List ℕ) (tokens : List Token) (text : List ℕ) → tokens ≡ map (token_in bytes) (tokens_of bytes) → None ≡ read_form tokens → text ≡ unsupported_text U7 (codes "-") → IsVerdict bytes 2 text
 unreadable_verdict bytes tokens text cut read is_text =
@@ -44,21 +39,3 @@ read_verdict bytes main calls status text read answer =
 pub form_verdict : (bytes : List ℕ) (tokens : List Token) (main : Place) (calls : List Call) (status : ℕ) (text : List ℕ) → tokens ≡ map (token_in bytes) (tokens_of bytes) → whole main calls ≡ read_form tokens → answered_by main (walk TI [] calls) status text → IsVerdict bytes status text
 form_verdict bytes tokens main calls status text cut read answer =
     read_verdict bytes main calls status text (read_form-sound bytes main calls (ap read_form (sym cut) ∙ sym read)) answer
-
--- the kernel's counters
-ops_of-from : (bytes : List ℕ) (n : ℕ) (calls : List KernelCall) → map (λ c. op_of c.call) (calls_from bytes n calls) ≡ map op_of calls
-ops_of-from bytes n [] = refl
-ops_of-from bytes n (call ∷ calls) = ap (λ r. op_of call ∷ r) (ops_of-from bytes (n + 4) calls)
-
-quiet_walk : (bytes : List ℕ) (main : Place) (calls : List Call) (found : Option (List Call × Call × Kind)) (status : ℕ) (text : List ℕ) → whole main calls ≡ read_form (map (token_in bytes) (tokens_of bytes)) → walk TI [] calls ≡ found → answered_by main found status text → status ≡ 0 → KernelIsQuiet bytes
-quiet_walk bytes main calls (Some found) status text read walked answer zero_is form spells = absurd (cc)
-quiet_walk bytes main calls None status text read walked answer zero_is form spells =
-    let same : calls ≡ placed_calls form bytes = placed (read ∙ read_form-complete bytes form spells) in
-    let quiet = halts_nowhere TI [] (placed_calls form bytes) (ap (walk TI []) (sym same) ∙ walked) in
-    subst (HaltsNowhere (counters_of TI)) (ops_of-from bytes (6 * length form.prototypes + 6) form.calls) quiet where
-      placed : whole main calls ≡ whole (main_place form bytes) (placed_calls form bytes) → calls ≡ placed_calls form bytes
-      placed e = (whole-parts main (main_place form bytes) calls (placed_calls form bytes) e).1
-
-pub form_quiet : (bytes : List ℕ) (tokens : List Token) (main : Place) (calls : List Call) (status : ℕ) (text : List ℕ) → tokens ≡ map (token_in bytes) (tokens_of bytes) → whole main calls ≡ read_form tokens → answered_by main (walk TI [] calls) status text → status ≡ 0 → KernelIsQuiet bytes
-form_quiet bytes tokens main calls status text cut read answer zero_is =
-    quiet_walk bytes main calls (walk TI [] calls) status text (read ∙ ap read_form cut) refl answer zero_is

@@ -45,11 +45,20 @@ pub record Answers (told : Option Files) (status : ℕ) (text : List ℕ) : Type
   pub told_files : AreTold told files
   pub answer : IsAnswer files status text
 
--- the sink took the whole text of this status
+-- no check of the kernel halts on the calls of main.i of these files
+abbrev pub IsQuietOn : Files → Type 0
+IsQuietOn files = IfSome (bytes_of files main_name) KernelIsQuiet
+
+-- the same of the files that are told
+abbrev pub KernelIsQuietOn : Option Files → Type 0
+KernelIsQuietOn told = IfSome told IsQuietOn
+
+-- the sink took the whole text of this status; and where it is 0, no check of the kernel halts on the files that it answers
 pub record Reports (told : Option Files) (before after : Option (List ℕ)) (status : ℕ) : Type 0 where
   pub text : List ℕ
   pub answers : Answers told status text
   pub taken : Appends before after text
+  pub quiet : status ≡ 0 → IsQuietOn answers.files
 
 -- the sink took a front of the text of a status 0, 1 or 2
 pub record ReportsPartly (told : Option Files) (before after : Option (List ℕ)) : Type 0 where
@@ -58,10 +67,6 @@ pub record ReportsPartly (told : Option Files) (before after : Option (List ℕ)
   pub answers : Answers told status text
   pub count : ℕ
   pub taken : Appends before after (take count text)
-
--- no check of the kernel halts on main.i of the files that are told
-abbrev pub KernelIsQuietOn : Option Files → Type 0
-KernelIsQuietOn told = IfSome told (λ files. IfSome (bytes_of files main_name) KernelIsQuiet)
 
 -- where files are told, they are answered by this status alone
 abbrev pub IsOnlyAnswer : Option Files → ℕ → Type 0

@@ -1,10 +1,9 @@
 //! What a file is answered.
 ghost use Rattle.std.specs.Prelude.{◌≡◌, ◌≢◌, ◌≤◌, length, string_bytes, IfOk};
 ghost use Rattle.ck_io.specs.Outside.{Rose};
-ghost use Rattle.ck_cli.specs.Door.{Answers, KernelIsQuietOn};
+ghost use Rattle.ck_cli.specs.Door.{Answers};
 ghost use Rattle.ck_cli.specs.Texts.{unsupported_text};
 ghost use Rattle.ck_cli.specs.Verdict.{IsVerdict};
-ghost use Rattle.ck_cli.specs.Kernel.{KernelIsQuiet};
 ghost use Rattle.ck_cli.specs.Statuses.{status_code};
 ghost use Rattle.ck_cli.specs.Walked.{IsWalked};
 
@@ -28,8 +27,7 @@ pub struct Answer {
 /// What the bytes of a file are answered, of which there are at most 1,048,576.
 pub fn verdict(alloc: Global, bytes: &[u8]) -> Result<Answer, OutOfMemory>
     requires { length bytes.now ≤ 1048576 }
-    ensures verdict { IfOk result (λ answer. IsVerdict bytes.now (status_code answer.status) (string_bytes answer.text)) }
-    ensures kernel { IfOk result (λ answer. status_code answer.status ≡ 0 → KernelIsQuiet bytes.now) }
+    ensures { IfOk result (λ answer. IsVerdict bytes.now (status_code answer.status) (string_bytes answer.text)) }
 {
     let tokens = cut(alloc, bytes)?;
     match form_of(alloc, &tokens)? {
@@ -71,7 +69,6 @@ pub fn answer_of<F: Folder>(alloc: Global, folder: &mut F) -> Result<Answer, Sto
     ensures kept { F.told folder.new ≡ F.told folder.old }
     ensures counted { F.faults folder.old ≤ F.faults folder.new }
     ensures answers { IfOk result (λ a. Answers (F.told folder.old) (status_code a.status) (string_bytes a.text)) }
-    ensures kernel { IfOk result (λ a. status_code a.status ≡ 0 → KernelIsQuietOn (F.told folder.old)) }
     ensures fault { result ≡ Err Stop.ReadFault → Rose (F.faults folder.old) (F.faults folder.new) }
 {
     match main_file(alloc, folder)? {

@@ -1,7 +1,8 @@
-use Rattle.std.proofs.Common.{◌≤◌, string_bytes, arith, subst, sym}
+use Rattle.std.proofs.Common.{◌≤◌, string_bytes, arith, subst, sym, ◌∙◌}
 use Rattle.ck_cli.specs.Door.{IsOnlyAnswer}
 use Rattle.ck_cli.specs.Statuses.{status_code}
 use Rattle.ck_cli.proofs.OneAnswer.{low_status, only_answer}
+use Rattle.ck_cli.proofs.Quiet.{quiet_told, Reports-written}
 use Rattle.ck_cli.proofs.WordLemmas.{low_is_not_silent}
 use Rattle.ck_cli.proofs.rtcheck.Goals as goal
 
@@ -30,3 +31,12 @@ pub returns-in-Ok-write_all-clause-only : goal.returns-in-Ok-write_all-clause-on
 returns-in-Ok-write_all-clause-only g c low =
     let told = g.F.Folder.told c.args.folder.now in
     subst (IsOnlyAnswer told) (sym c.code-in-Ok-write_all.ensures) (only_answer told (status_code c.in-Ok.answer.status) (string_bytes c.in-Ok.answer.text) c.in-Ok.ensures.answers)
+
+pub returns-in-Ok-write_all-clause-reports : goal.returns-in-Ok-write_all-clause-reports
+returns-in-Ok-write_all-clause-reports g c low =
+    Reports-written (g.F.Folder.told c.args.folder.now) (g.K.Sink.taken c.args.sink.now) (g.K.Sink.taken c.write_all.new.sink) c.code-in-Ok-write_all.result (status_code c.in-Ok.answer.status) (string_bytes c.in-Ok.answer.text) c.as_bytes.result.now
+    c.code-in-Ok-write_all.ensures c.in-Ok.ensures.answers c.as_bytes.ensures.value c.in-Ok-write_all.ensures.written
+
+pub returns-in-Ok-write_all-clause-quiet : goal.returns-in-Ok-write_all-clause-quiet
+returns-in-Ok-write_all-clause-quiet g c zero_is =
+    quiet_told (g.F.Folder.told c.args.folder.now) (status_code c.in-Ok.answer.status) (string_bytes c.in-Ok.answer.text) c.in-Ok.ensures.answers (sym c.code-in-Ok-write_all.ensures ∙ zero_is)

@@ -28,4 +28,4 @@ pub returns-in-Ok-clause-answers : goal.returns-in-Ok-clause-answers
 returns-in-Ok-clause-answers g c =
     let told = g.F.Folder.told c.args.folder.now in
     let found = subst (IsFound told) c.in-Read.is c.in_ok-main_file.ensures.found in
-    Answers-read told c.in-Read.bytes.items (status_code c.in-Ok.answer.status) (string_bytes c.in-Ok.answer.text) found (subst (λ b. IsVerdict b (status_code c.in-Ok.answer.status) (string_bytes c.in-Ok.answer.text)) c.deref.ensures.value c.in-Ok.ensures.verdict)
+    Answers-read told c.in-Read.bytes.items (status_code c.in-Ok.answer.status) (string_bytes c.in-Ok.answer.text) found (subst (λ b. IsVerdict b (status_code c.in-Ok.answer.status) (string_bytes c.in-Ok.answer.text)) c.deref.ensures.value c.in-Ok.ensures)
