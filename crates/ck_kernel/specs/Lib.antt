@@ -1,0 +1,4 @@
+pub mod KernelTable
+pub mod Laws
+pub mod Shown
+pub mod Lengths
