@@ -7,6 +7,8 @@
 #[cfg(test)]
 mod faults;
 #[cfg(test)]
+mod kernel;
+#[cfg(test)]
 mod project;
 #[cfg(test)]
 mod reports;
