@@ -1,0 +1,7 @@
+/* The kernel's header, for the checker. */
+#ifndef CH_H
+#define CH_H
+
+#include "rtcheck_ch.h"
+
+#endif
