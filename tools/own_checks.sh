@@ -1,8 +1,10 @@
 #!/bin/sh
 # Our own checks, which the gate runs after `rt ci`:
 #
-# - each example: the built program, run in its folder, writes the folder's `report` byte for byte and ends with its status;
+# - each example that has a `report`: the built program, run in its folder, writes it byte for byte and ends with its status;
 # - the lines on standard error and the statuses of words that are no command and of a file that can't be read;
+# - the stub headers, docs/KERNEL.md and the table of kernel calls agree (tools/check_header.sh), and the C sources of the
+#   examples preprocess against these headers (tools/check_preprocess.sh);
 # - no .rt or .antt file of the repository has more than 800 lines.
 #
 # It takes the program that `rt ci` or `rt run` left, and builds it where there is none or where that one is older than its
@@ -32,7 +34,9 @@ stops() { # stops STATUS LINE WORD..: in the folder $bare, the program writes no
 if program=$(tools/build.sh); then
   for folder in examples/*/; do
     folder=${folder%/}
-    if tools/run_example.sh "$program" "$folder" > "$said" 2>&1; then
+    if [ ! -e "$folder/report" ]; then
+      echo "own check: $folder isn't run: it has no report yet"
+    elif tools/run_example.sh "$program" "$folder" > "$said" 2>&1; then
       echo "own check: $folder: the report as it must be, $(tail -n 1 "$said")"
     else
       failed=$((failed + 1))
@@ -49,6 +53,9 @@ else
   failed=$((failed + 1))
   echo "own check: FAILED: there is no program to run the examples with"
 fi
+
+tools/check_header.sh || failed=$((failed + 1))
+tools/check_preprocess.sh || failed=$((failed + 1))
 
 long=$(find crates -name out -prune -o -type f \( -name '*.rt' -o -name '*.antt' \) \
   -exec awk 'END { if (NR > 800) print FILENAME ": " NR " lines" }' {} \;)
