@@ -1,10 +1,10 @@
 -- Which calls the prototypes declare: those that they name.
 use Rattle.std.proofs.Common.{◌≡◌, ℕ, zero, suc, ◌<◌, true, false, List, [], ◌∷◌, length, ◌⊎◌, inl, inr, refl, arith}
 use Rattle.std.specs.Prelude.{Contains, slice_index_or}
-use Rattle.ck_cli.specs.Reader.{declared_with, is_declared, declared_by, none_declared}
+use Rattle.ck_cli.specs.Reading.{declared_with, is_declared, declared_by, none_declared}
 use Rattle.ck_cli.specs.declared.calls.KernelCall.{KernelCall}
 use Rattle.ck_cli.specs.declared.calls.KernelCall.TheVariants.{Init, Disable, Suspend, Enable, Lock, Unlock}
-use Rattle.ck_cli.specs.declared.form.Declared.{Declared}
+use Rattle.ck_cli.specs.declared.declared.Declared.{Declared}
 
 declared-with : (d : Declared) (added call : KernelCall) → is_declared (declared_with d added) call ≡ true → (added ≡ call) ⊎ (is_declared d call ≡ true)
 declared-with d Init Init h = inl refl

@@ -1,108 +1,226 @@
--- What the reader reads is spelled by the bytes.
-use Rattle.std.proofs.Common.{◌≡◌, ℕ, zero, suc, ◌+◌, ◌*◌, Bool, true, false, cond, List, [], ◌∷◌, ◌++◌, length, drop, map, Option, Some, None, refl, sym, ap, ◌∙◌, arith, append_assoc}
-use Rattle.std.specs.Prelude.{slice_index}
+-- What was read is a front of a file of the form, and at its end a file of the form.
+use Rattle.std.proofs.Common.{◌≡◌, ◌≢◌, ℕ, zero, suc, ◌+◌, ◌*◌, ◌<◌, Bool, true, false, cond, List, [], ◌∷◌, ◌++◌, length, get_or, drop, Option, Some, None, refl, sym, ap, ◌∙◌, subst, arith, append_assoc, length-append}
+use Rattle.std.specs.Prelude.{codes, All, Contains, option_and_then}
 use Rattle.std.specs.List.{flat_map}
-use Rattle.std.proofs.lemmas.List.{drop-drop}
+use Rattle.std.proofs.lemmas.Grind.{flat_map-append}
+use Rattle.std.proofs.lemmas.List.{append-nil, drop-drop}
+use Rattle.std.proofs.lemmas.List.Elements.{All-append}
+use Rattle.ck_base.specs.declared.tokens.Token.{Token}
 use Rattle.ck_cli.specs.declared.calls.KernelCall.{KernelCall}
+use Rattle.ck_cli.specs.declared.declared.Declared.{Declared}
 use Rattle.ck_cli.specs.declared.form.Call.{Call}
-use Rattle.ck_cli.specs.declared.places.Place.{Place}
-use Rattle.ck_cli.specs.declared.tokens.Token.{Token}
-use Rattle.ck_cli.specs.Tokens.{TokenText, tokens_of, place_at}
-use Rattle.ck_cli.specs.Lexemes.{lexeme_of, token_in}
-use Rattle.ck_cli.specs.Reader.{prototype_by, opens_main, statement_by, after_prototype, after_statement, read_prototypes, read_opening, read_statements}
-use Rattle.ck_cli.specs.FileForm.{prototype, opening, statement, token_place, calls_from}
-use Rattle.ck_cli.proofs.Groups.{prototype-texts, statement-texts, opening-texts}
+use Rattle.ck_cli.specs.declared.lexemes.Lexeme.{Lexeme}
+use Rattle.ck_cli.specs.declared.lexemes.Lexeme.TheVariants as L
+use Rattle.ck_cli.specs.declared.position.Position.{Position}
+use Rattle.ck_cli.specs.declared.position.Position.TheVariants.{Outside, PrototypeName, PrototypeOpen, PrototypeVoid, PrototypeClose, PrototypeEnd, MainName, MainOpen, MainVoid, MainClose, MainBrace, Body, CallOpen, CallClose, CallEnd, End}
+use Rattle.ck_cli.specs.FileForm.{prototype, opening, statement, closing, text_of, texts_of, token_start, calls_from}
+use Rattle.ck_cli.specs.Lexemes.{lexeme_of}
+use Rattle.ck_cli.specs.Reading.{Progress, beginning, declared_by, declared_with, is_declared, none_declared, next_position, role_at, noted, after, over}
+use Rattle.ck_cli.proofs.DeclaredLemmas.{Contains-from_declared}
+use Rattle.ck_cli.proofs.LexemeLemmas.{word_of, lexeme_of-text}
 
-abbrev pub texts : List TokenText → List (List ℕ)
-texts ts = map (λ t. t.text) ts
+-- what has to follow before the next choice
+abbrev pub pending : Position → List (List ℕ)
+pending PrototypeOpen = codes "(" ∷ codes "void" ∷ codes ")" ∷ codes ";" ∷ []
+pending PrototypeVoid = codes "void" ∷ codes ")" ∷ codes ";" ∷ []
+pending PrototypeClose = codes ")" ∷ codes ";" ∷ []
+pending PrototypeEnd = codes ";" ∷ []
+pending MainOpen = codes "(" ∷ codes "void" ∷ codes ")" ∷ codes "{" ∷ []
+pending MainVoid = codes "void" ∷ codes ")" ∷ codes "{" ∷ []
+pending MainClose = codes ")" ∷ codes "{" ∷ []
+pending MainBrace = codes "{" ∷ []
+pending CallOpen = codes "(" ∷ codes ")" ∷ codes ";" ∷ []
+pending CallClose = codes ")" ∷ codes ";" ∷ []
+pending CallEnd = codes ";" ∷ []
+pending _ = []
+
+-- prototypes, and then some texts
+pub record InFront (last : List (List ℕ)) (declared : Declared) (calls : List Call) (texts : List (List ℕ)) : Type 0 where
+  pub prototypes : List KernelCall
+  pub spelled : texts ≡ flat_map prototype prototypes ++ last
+  pub declared_is : declared ≡ declared_by none_declared prototypes
+  pub no_calls : calls ≡ []
+
+-- prototypes, the opening of `main`, calls, and then some texts
+pub record InMain (last : List (List ℕ)) (tokens : List Token) (declared : Declared) (main : ℕ) (calls : List Call) (texts : List (List ℕ)) : Type 0 where
+  pub prototypes : List KernelCall
+  pub made : List KernelCall
+  pub spelled : texts ≡ flat_map prototype prototypes ++ (opening ++ (flat_map statement made ++ last))
+  pub declared_is : declared ≡ declared_by none_declared prototypes
+  pub main_is : main ≡ token_start tokens (6 * length prototypes + 1)
+  pub calls_are : calls ≡ calls_from tokens (6 * length prototypes + 6) made
+  pub allowed : All (Contains prototypes) made
+
+-- what the texts with the pending ones are
+abbrev pub Are : Position → List Token → Declared → ℕ → List Call → List (List ℕ) → Type 0
+Are PrototypeName tokens declared main calls texts = InFront (codes "void" ∷ []) declared calls texts
+Are MainName tokens declared main calls texts = InFront (codes "int" ∷ []) declared calls texts
+Are Outside tokens declared main calls texts = InFront [] declared calls texts
+Are PrototypeOpen tokens declared main calls texts = InFront [] declared calls texts
+Are PrototypeVoid tokens declared main calls texts = InFront [] declared calls texts
+Are PrototypeClose tokens declared main calls texts = InFront [] declared calls texts
+Are PrototypeEnd tokens declared main calls texts = InFront [] declared calls texts
+Are End tokens declared main calls texts = InMain closing tokens declared main calls texts
+Are _ tokens declared main calls texts = InMain [] tokens declared main calls texts
+
+abbrev pub Stands : Position → List Token → Declared → ℕ → List Call → List (List ℕ) → Type 0
+Stands position tokens declared main calls texts = Are position tokens declared main calls (texts ++ pending position)
+
+-- a pending text comes
+comes : (P : List (List ℕ) → Type 0) (texts rest : List (List ℕ)) (text word : List ℕ) → text ≡ word → P (texts ++ word ∷ rest) → P ((texts ++ text ∷ []) ++ rest)
+comes P texts rest text word e h = subst P (ap (λ w. texts ++ w ∷ rest) (sym e) ∙ sym (append_assoc texts (text ∷ []) rest)) h
+
+-- a text of a choice comes
+chosen : (texts front rest : List (List ℕ)) (text word : List ℕ) → text ≡ word → texts ++ [] ≡ front → (texts ++ text ∷ []) ++ rest ≡ front ++ word ∷ rest
+chosen texts front rest text word e known =
+    append_assoc texts (text ∷ []) rest ∙ (ap (λ w. texts ++ w ∷ rest) e ∙ ap (λ f. f ++ word ∷ rest) (sym (append-nil texts) ∙ known))
+
+prototypes-length : (calls : List KernelCall) → length (flat_map prototype calls) ≡ 6 * length calls
+prototypes-length [] = refl
+prototypes-length (call ∷ calls) = omega (arith, prototypes-length calls)
+
+statements-length : (calls : List KernelCall) → length (flat_map statement calls) ≡ 4 * length calls
+statements-length [] = refl
+statements-length (call ∷ calls) = omega (arith, statements-length calls)
+
+one_more_declared : (d : Declared) (calls : List KernelCall) (call : KernelCall) → declared_by d (calls ++ call ∷ []) ≡ declared_with (declared_by d calls) call
+one_more_declared d [] call = refl
+one_more_declared d (c ∷ calls) call = one_more_declared (declared_with d c) calls call
+
+begins_prototype : (declared : Declared) (calls : List Call) (texts : List (List ℕ)) (text : List ℕ) → text ≡ codes "void" → InFront [] declared calls (texts ++ []) → InFront (codes "void" ∷ []) declared calls ((texts ++ text ∷ []) ++ [])
+begins_prototype declared calls texts text e is = record {
+  prototypes = is.prototypes;
+  spelled = chosen texts (flat_map prototype is.prototypes) [] text (codes "void") e (is.spelled ∙ append-nil (flat_map prototype is.prototypes));
+  declared_is = is.declared_is;
+  no_calls = is.no_calls;
+}
+
+begins_main : (declared : Declared) (calls : List Call) (texts : List (List ℕ)) (text : List ℕ) → text ≡ codes "int" → InFront [] declared calls (texts ++ []) → InFront (codes "int" ∷ []) declared calls ((texts ++ text ∷ []) ++ [])
+begins_main declared calls texts text e is = record {
+  prototypes = is.prototypes;
+  spelled = chosen texts (flat_map prototype is.prototypes) [] text (codes "int") e (is.spelled ∙ append-nil (flat_map prototype is.prototypes));
+  declared_is = is.declared_is;
+  no_calls = is.no_calls;
+}
+
+names_prototype : (declared : Declared) (calls : List Call) (texts : List (List ℕ)) (text : List ℕ) (call : KernelCall) → text ≡ word_of (L.Kernel call) → InFront (codes "void" ∷ []) declared calls (texts ++ []) → InFront [] (declared_with declared call) calls ((texts ++ text ∷ []) ++ pending PrototypeOpen)
+names_prototype declared calls texts text call e is =
+    let front = flat_map prototype is.prototypes in
+    let one : flat_map prototype (is.prototypes ++ call ∷ []) ≡ front ++ (prototype call ++ []) = flat_map-append prototype is.prototypes (call ∷ []) in
+    record {
+      prototypes = is.prototypes ++ call ∷ [];
+      spelled = chosen texts (front ++ codes "void" ∷ []) (pending PrototypeOpen) text (word_of (L.Kernel call)) e is.spelled ∙ (append_assoc front (codes "void" ∷ []) (word_of (L.Kernel call) ∷ pending PrototypeOpen) ∙ (sym one ∙ sym (append-nil (flat_map prototype (is.prototypes ++ call ∷ [])))));
+      declared_is = ap (λ d. declared_with d call) is.declared_is ∙ sym (one_more_declared none_declared is.prototypes call);
+      no_calls = is.no_calls;
+    }
+
+names_main : (tokens : List Token) (n start : ℕ) (declared : Declared) (calls : List Call) (texts : List (List ℕ)) (text : List ℕ) → length texts ≡ n → start ≡ token_start tokens n → text ≡ codes "main" → InFront (codes "int" ∷ []) declared calls (texts ++ []) → InMain [] tokens declared start calls ((texts ++ text ∷ []) ++ pending MainOpen)
+names_main tokens n start declared calls texts text long at e is =
+    let front = flat_map prototype is.prototypes in
+    let count : n ≡ 6 * length is.prototypes + 1 = omega (arith, ap length is.spelled, length-append texts [], length-append front (codes "int" ∷ []), prototypes-length is.prototypes) in
+    record {
+      prototypes = is.prototypes;
+      made = [];
+      spelled = chosen texts (front ++ codes "int" ∷ []) (pending MainOpen) text (codes "main") e is.spelled ∙ append_assoc front (codes "int" ∷ []) (codes "main" ∷ pending MainOpen);
+      declared_is = is.declared_is;
+      main_is = at ∙ ap (token_start tokens) count;
+      calls_are = is.no_calls;
+      allowed = λ k c within. absurd (omega arith);
+    }
+
+calls_from-push : (tokens : List Token) (n : ℕ) (made : List KernelCall) (call : KernelCall) → calls_from tokens n (made ++ call ∷ []) ≡ calls_from tokens n made ++ record { call = call; start = token_start tokens (n + 4 * length made) } ∷ []
+calls_from-push tokens n [] call = ap (λ k. record { call = call; start = token_start tokens k } ∷ []) (omega arith)
+calls_from-push tokens n (m ∷ made) call =
+    let moved : n + 4 + 4 * length made ≡ n + 4 * length (m ∷ made) = omega arith in
+    ap (λ r. record { call = m; start = token_start tokens n } ∷ r) (calls_from-push tokens (n + 4) made call ∙ ap (λ k. calls_from tokens (n + 4) made ++ record { call = call; start = token_start tokens k } ∷ []) moved)
+
+-- a text of a choice in `main` comes
+chosen_in_main : (texts front body rest : List (List ℕ)) (text word : List ℕ) → text ≡ word → texts ++ [] ≡ front ++ (opening ++ (body ++ [])) → (texts ++ text ∷ []) ++ rest ≡ front ++ (opening ++ (body ++ word ∷ rest))
+chosen_in_main texts front body rest text word e known =
+    chosen texts (front ++ (opening ++ (body ++ []))) rest text word e known ∙ (append_assoc front (opening ++ (body ++ [])) (word ∷ rest) ∙ ap (λ b. front ++ (opening ++ (b ++ word ∷ rest))) (append-nil body))
+
+names_call : (tokens : List Token) (n start : ℕ) (declared : Declared) (main : ℕ) (calls : List Call) (texts : List (List ℕ)) (text : List ℕ) (call : KernelCall) → length texts ≡ n → start ≡ token_start tokens n → text ≡ word_of (L.Kernel call) → is_declared declared call ≡ true → InMain [] tokens declared main calls (texts ++ []) → InMain [] tokens declared main (calls ++ record { call = call; start = start } ∷ []) ((texts ++ text ∷ []) ++ pending CallOpen)
+names_call tokens n start declared main calls texts text call long at e known is =
+    let front = flat_map prototype is.prototypes in
+    let body = flat_map statement is.made in
+    let one : flat_map statement (is.made ++ call ∷ []) ≡ body ++ (statement call ++ []) = flat_map-append statement is.made (call ∷ []) in
+    let count : n ≡ 6 * length is.prototypes + 6 + 4 * length is.made = omega (arith, ap length is.spelled, length-append texts [], length-append front (opening ++ (body ++ [])), length-append body [], prototypes-length is.prototypes, statements-length is.made) in
+    record {
+      prototypes = is.prototypes;
+      made = is.made ++ call ∷ [];
+      spelled = chosen_in_main texts front body (pending CallOpen) text (word_of (L.Kernel call)) e is.spelled ∙ ap (λ b. front ++ (opening ++ b)) (sym one ∙ sym (append-nil (flat_map statement (is.made ++ call ∷ []))));
+      declared_is = is.declared_is;
+      main_is = is.main_is;
+      calls_are = ap (λ cs. cs ++ record { call = call; start = start } ∷ []) is.calls_are ∙ (ap (λ s. calls_from tokens (6 * length is.prototypes + 6) is.made ++ record { call = call; start = s } ∷ []) (at ∙ ap (token_start tokens) count) ∙ sym (calls_from-push tokens (6 * length is.prototypes + 6) is.made call));
+      allowed = All-append (Contains is.prototypes) is.made (call ∷ []) is.allowed (λ k c within. only k c within (Contains-from_declared is.prototypes call (subst (λ d. is_declared d call ≡ true) is.declared_is known)));
+    } where
+      only : (k : ℕ) (c : KernelCall) → k < 1 → Contains is.prototypes call → Contains is.prototypes (get_or (call ∷ []) k c)
+      only zero c within found = found
+      only (suc k) c within found = absurd (omega arith)
+
+ends_main : (tokens : List Token) (declared : Declared) (main : ℕ) (calls : List Call) (texts : List (List ℕ)) (text : List ℕ) → text ≡ codes "}" → InMain [] tokens declared main calls (texts ++ []) → InMain closing tokens declared main calls ((texts ++ text ∷ []) ++ [])
+ends_main tokens declared main calls texts text e is = record {
+  prototypes = is.prototypes;
+  made = is.made;
+  spelled = chosen_in_main texts (flat_map prototype is.prototypes) (flat_map statement is.made) [] text (codes "}") e is.spelled;
+  declared_is = is.declared_is;
+  main_is = is.main_is;
+  calls_are = is.calls_are;
+  allowed = is.allowed;
+}
+
+-- one token more
+abbrev StandsAt : List Token → List (List ℕ) → Progress → Type 0
+StandsAt tokens texts p = Stands p.position tokens p.declared p.main p.calls texts
+
+same_some : (tokens : List Token) (texts : List (List ℕ)) (p q : Progress) → Some p ≡ Some q → StandsAt tokens texts p → StandsAt tokens texts q
+same_some tokens texts p q e h = let same : p ≡ q = cc in subst (StandsAt tokens texts) same h
+
+allowed_call : (v : Bool) (p q : Progress) → cond v (Some p) None ≡ Some q → (v ≡ true) × (Some p ≡ Some q)
+allowed_call true p q h = (refl, h)
+allowed_call false p q h = absurd (cc)
+
+advance : (position : Position) (lexeme : Lexeme) (tokens : List Token) (n start : ℕ) (p q : Progress) (texts : List (List ℕ)) (text : List ℕ) → (lexeme ≢ L.Other → text ≡ word_of lexeme) → length texts ≡ n → start ≡ token_start tokens n → Stands position tokens p.declared p.main p.calls texts → option_and_then (λ next. noted (role_at position lexeme) start next p) (next_position position lexeme) ≡ Some q → StandsAt tokens (texts ++ text ∷ []) q
+advance Outside L.Void tokens n start p q texts text fits long at is h = same_some tokens _ _ q h (begins_prototype p.declared p.calls texts text (fits (λ o. absurd (cc))) is)
+advance Outside L.Int tokens n start p q texts text fits long at is h = same_some tokens _ _ q h (begins_main p.declared p.calls texts text (fits (λ o. absurd (cc))) is)
+advance PrototypeName (L.Kernel call) tokens n start p q texts text fits long at is h = same_some tokens _ _ q h (names_prototype p.declared p.calls texts text call (fits (λ o. absurd (cc))) is)
+advance PrototypeOpen L.Open tokens n start p q texts text fits long at is h = same_some tokens _ _ q h (comes (InFront [] p.declared p.calls) texts (pending PrototypeVoid) text _ (fits (λ o. absurd (cc))) is)
+advance PrototypeVoid L.Void tokens n start p q texts text fits long at is h = same_some tokens _ _ q h (comes (InFront [] p.declared p.calls) texts (pending PrototypeClose) text _ (fits (λ o. absurd (cc))) is)
+advance PrototypeClose L.Close tokens n start p q texts text fits long at is h = same_some tokens _ _ q h (comes (InFront [] p.declared p.calls) texts (pending PrototypeEnd) text _ (fits (λ o. absurd (cc))) is)
+advance PrototypeEnd L.Semicolon tokens n start p q texts text fits long at is h = same_some tokens _ _ q h (comes (InFront [] p.declared p.calls) texts [] text _ (fits (λ o. absurd (cc))) is)
+advance MainName L.Main tokens n start p q texts text fits long at is h = same_some tokens _ _ q h (names_main tokens n start p.declared p.calls texts text long at (fits (λ o. absurd (cc))) is)
+advance MainOpen L.Open tokens n start p q texts text fits long at is h = same_some tokens _ _ q h (comes (InMain [] tokens p.declared p.main p.calls) texts (pending MainVoid) text _ (fits (λ o. absurd (cc))) is)
+advance MainVoid L.Void tokens n start p q texts text fits long at is h = same_some tokens _ _ q h (comes (InMain [] tokens p.declared p.main p.calls) texts (pending MainClose) text _ (fits (λ o. absurd (cc))) is)
+advance MainClose L.Close tokens n start p q texts text fits long at is h = same_some tokens _ _ q h (comes (InMain [] tokens p.declared p.main p.calls) texts (pending MainBrace) text _ (fits (λ o. absurd (cc))) is)
+advance MainBrace L.LeftBrace tokens n start p q texts text fits long at is h = same_some tokens _ _ q h (comes (InMain [] tokens p.declared p.main p.calls) texts [] text _ (fits (λ o. absurd (cc))) is)
+advance Body (L.Kernel call) tokens n start p q texts text fits long at is h =
+    let made = allowed_call (is_declared p.declared call) _ q h in
+    same_some tokens _ _ q made.1 (names_call tokens n start p.declared p.main p.calls texts text call long at (fits (λ o. absurd (cc))) made.0 is)
+advance Body L.RightBrace tokens n start p q texts text fits long at is h = same_some tokens _ _ q h (ends_main tokens p.declared p.main p.calls texts text (fits (λ o. absurd (cc))) is)
+advance CallOpen L.Open tokens n start p q texts text fits long at is h = same_some tokens _ _ q h (comes (InMain [] tokens p.declared p.main p.calls) texts (pending CallClose) text _ (fits (λ o. absurd (cc))) is)
+advance CallClose L.Close tokens n start p q texts text fits long at is h = same_some tokens _ _ q h (comes (InMain [] tokens p.declared p.main p.calls) texts (pending CallEnd) text _ (fits (λ o. absurd (cc))) is)
+advance CallEnd L.Semicolon tokens n start p q texts text fits long at is h = same_some tokens _ _ q h (comes (InMain [] tokens p.declared p.main p.calls) texts [] text _ (fits (λ o. absurd (cc))) is)
+advance _ _ tokens n start p q texts text fits long at is h = absurd (cc)
 
 -- the first token after n tokens
-pub start_at : (all : List TokenText) (n : ℕ) (t : TokenText) (rest : List TokenText) → drop n all ≡ t ∷ rest → slice_index (map (λ u. u.start) all) n ≡ t.start
+start_at : (all : List Token) (n : ℕ) (t : Token) (rest : List Token) → drop n all ≡ t ∷ rest → t.span.start ≡ token_start all n
 start_at [] zero t rest e = absurd (cc)
 start_at [] (suc n) t rest e = absurd (cc)
-start_at (u ∷ all) zero t rest e = let same : u ≡ t = cc in ap (λ v. v.start) same
+start_at (u ∷ all) zero t rest e = let same : t ≡ u = cc in ap (λ v. v.span.start) same
 start_at (u ∷ all) (suc n) t rest e = start_at all n t rest e
 
-pub record PrototypesRead (bytes : List ℕ) (ts : List TokenText) (read : List KernelCall × List Token) : Type 0 where
-  pub spelled : texts ts ≡ flat_map prototype read.0 ++ texts (drop (6 * length read.0) ts)
-  pub rest : read.1 ≡ map (token_in bytes) (drop (6 * length read.0) ts)
+some_next : (bytes : List ℕ) (rest : List Token) (next : Option Progress) (q : Progress) → option_and_then (over bytes rest) next ≡ Some q → (p : Progress) × (next ≡ Some p) × (over bytes rest p ≡ Some q)
+some_next bytes rest None q h = absurd (cc)
+some_next bytes rest (Some p) q h = (p, refl, h)
 
-pub six_on : (a b c d e f : TokenText) (ts : List TokenText) (n : ℕ) → drop (6 * suc n) (a ∷ b ∷ c ∷ d ∷ e ∷ f ∷ ts) ≡ drop (6 * n) ts
-six_on a b c d e f ts n = let six : 6 * suc n ≡ suc (suc (suc (suc (suc (suc (6 * n)))))) = omega arith in rw six refl
+all_over : (bytes : List ℕ) (all rest : List Token) (n : ℕ) (p q : Progress) (texts : List (List ℕ)) → drop n all ≡ rest → length texts ≡ n → StandsAt all texts p → over bytes rest p ≡ Some q → StandsAt all (texts ++ texts_of bytes rest) q
+all_over bytes all [] n p q texts here long is h = subst (λ ts. StandsAt all ts q) (sym (append-nil texts)) (same_some all texts p q h is)
+all_over bytes all (t ∷ rest) n p q texts here long is h =
+    let next = some_next bytes rest (after p (lexeme_of (text_of bytes t)) t.span.start) q h in
+    let moved = advance p.position (lexeme_of (text_of bytes t)) all n t.span.start p next.0 texts (text_of bytes t) (lexeme_of-text (text_of bytes t)) long (start_at all n t rest here) is next.1 in
+    let later : drop (n + 1) all ≡ rest = sym (drop-drop 1 n all) ∙ ap (drop 1) here in
+    subst (λ ts. StandsAt all ts q) (append_assoc texts (text_of bytes t ∷ []) (texts_of bytes rest))
+    (all_over bytes all rest (n + 1) next.0 q (texts ++ text_of bytes t ∷ []) later (omega (arith, length-append texts (text_of bytes t ∷ []))) moved next.2)
 
-prototype_read : (bytes : List ℕ) (a b c d e f : TokenText) (ts : List TokenText) (found : Option KernelCall) (read : List KernelCall × List Token) → prototype_by (lexeme_of a.text) (lexeme_of b.text) (lexeme_of c.text) (lexeme_of d.text) (lexeme_of e.text) (lexeme_of f.text) ≡ found → PrototypesRead bytes ts read → PrototypesRead bytes (a ∷ b ∷ c ∷ d ∷ e ∷ f ∷ ts) (after_prototype found read (map (token_in bytes) (a ∷ b ∷ c ∷ d ∷ e ∷ f ∷ ts)))
-prototype_read bytes a b c d e f ts None read by rest = record { spelled = refl; rest = refl }
-prototype_read bytes a b c d e f ts (Some call) read by rest =
-    let group : a.text ∷ b.text ∷ c.text ∷ d.text ∷ e.text ∷ f.text ∷ [] ≡ prototype call = prototype-texts a.text b.text c.text d.text e.text f.text call by in
-    let on : drop (6 * suc (length read.0)) (a ∷ b ∷ c ∷ d ∷ e ∷ f ∷ ts) ≡ drop (6 * length read.0) ts = six_on a b c d e f ts (length read.0) in
-    record {
-      spelled = ap (λ g. g ++ texts ts) group ∙ (ap (λ r. prototype call ++ r) rest.spelled ∙ (sym (append_assoc (prototype call) (flat_map prototype read.0) (texts (drop (6 * length read.0) ts))) ∙ ap (λ r. (prototype call ++ flat_map prototype read.0) ++ texts r) (sym on)));
-      rest = rest.rest ∙ ap (map (token_in bytes)) (sym on);
-    }
-
-pub prototypes_read : (bytes : List ℕ) (ts : List TokenText) → PrototypesRead bytes ts (read_prototypes (map (token_in bytes) ts))
-prototypes_read bytes (a ∷ b ∷ c ∷ d ∷ e ∷ f ∷ ts) =
-    prototype_read bytes a b c d e f ts (prototype_by (lexeme_of a.text) (lexeme_of b.text) (lexeme_of c.text) (lexeme_of d.text) (lexeme_of e.text) (lexeme_of f.text)) (read_prototypes (map (token_in bytes) ts)) refl (prototypes_read bytes ts)
-prototypes_read bytes _ = record { spelled = refl; rest = refl }
-
-abbrev pub calls_of : List Call → List KernelCall
-calls_of calls = map (λ c. c.call) calls
-
-pub record StatementsRead (bytes : List ℕ) (n : ℕ) (ts : List TokenText) (read : List Call × List Token) : Type 0 where
-  pub spelled : texts ts ≡ flat_map statement (calls_of read.0) ++ texts (drop (4 * length read.0) ts)
-  pub rest : read.1 ≡ map (token_in bytes) (drop (4 * length read.0) ts)
-  pub placed : read.0 ≡ calls_from bytes n (calls_of read.0)
-
-pub four_on : (a b c d : TokenText) (ts : List TokenText) (n : ℕ) → drop (4 * suc n) (a ∷ b ∷ c ∷ d ∷ ts) ≡ drop (4 * n) ts
-four_on a b c d ts n = let four : 4 * suc n ≡ suc (suc (suc (suc (4 * n)))) = omega arith in rw four refl
-
-pub four_later : (all : List TokenText) (n : ℕ) (a b c d : TokenText) (ts : List TokenText) → drop n all ≡ a ∷ b ∷ c ∷ d ∷ ts → drop (n + 4) all ≡ ts
-four_later all n a b c d ts e = sym (drop-drop 4 n all) ∙ ap (drop 4) e
-
-statement_read : (bytes : List ℕ) (n : ℕ) (a b c d : TokenText) (ts : List TokenText) (found : Option KernelCall) (read : List Call × List Token) → drop n (tokens_of bytes) ≡ a ∷ b ∷ c ∷ d ∷ ts → statement_by (lexeme_of a.text) (lexeme_of b.text) (lexeme_of c.text) (lexeme_of d.text) ≡ found → StatementsRead bytes (n + 4) ts read → StatementsRead bytes n (a ∷ b ∷ c ∷ d ∷ ts) (after_statement found (place_at bytes a.start) read (map (token_in bytes) (a ∷ b ∷ c ∷ d ∷ ts)))
-statement_read bytes n a b c d ts None read here by rest = record { spelled = refl; rest = refl; placed = refl }
-statement_read bytes n a b c d ts (Some call) read here by rest =
-    let group : a.text ∷ b.text ∷ c.text ∷ d.text ∷ [] ≡ statement call = statement-texts a.text b.text c.text d.text call by in
-    let on : drop (4 * suc (length read.0)) (a ∷ b ∷ c ∷ d ∷ ts) ≡ drop (4 * length read.0) ts = four_on a b c d ts (length read.0) in
-    let place : place_at bytes a.start ≡ token_place bytes n = ap (place_at bytes) (sym (start_at (tokens_of bytes) n a (b ∷ c ∷ d ∷ ts) here)) in
-    record {
-      spelled = ap (λ g. g ++ texts ts) group ∙ (ap (λ r. statement call ++ r) rest.spelled ∙ (sym (append_assoc (statement call) (flat_map statement (calls_of read.0)) (texts (drop (4 * length read.0) ts))) ∙ ap (λ r. (statement call ++ flat_map statement (calls_of read.0)) ++ texts r) (sym on)));
-      rest = rest.rest ∙ ap (map (token_in bytes)) (sym on);
-      placed = ap (λ p. record { call = call; place = p } ∷ read.0) place ∙ ap (λ r. record { call = call; place = token_place bytes n } ∷ r) rest.placed;
-    }
-
-pub statements_read : (bytes : List ℕ) (n : ℕ) (ts : List TokenText) → drop n (tokens_of bytes) ≡ ts → StatementsRead bytes n ts (read_statements (map (token_in bytes) ts))
-statements_read bytes n (a ∷ b ∷ c ∷ d ∷ ts) here =
-    statement_read bytes n a b c d ts (statement_by (lexeme_of a.text) (lexeme_of b.text) (lexeme_of c.text) (lexeme_of d.text)) (read_statements (map (token_in bytes) ts)) here refl (statements_read bytes (n + 4) ts (four_later (tokens_of bytes) n a b c d ts here))
-statements_read bytes n _ here = record { spelled = refl; rest = refl; placed = refl }
-
-pub record OpeningRead (bytes : List ℕ) (n : ℕ) (ts : List TokenText) (main : Place) (rest : List Token) : Type 0 where
-  pub spelled : texts ts ≡ opening ++ texts (drop 6 ts)
-  pub rest_is : rest ≡ map (token_in bytes) (drop 6 ts)
-  pub placed : main ≡ token_place bytes (n + 1)
-
-abbrev pub opened : Place → List Token → Option (Place × List Token)
-opened main rest = Some (main, rest)
-
-opened-parts : (p q : Place) (r s : List Token) → opened p r ≡ opened q s → (p ≡ q) × (r ≡ s)
-opened-parts p q r s e =
-    let x : Place × List Token = (p, r) in
-    let y : Place × List Token = (q, s) in
-    let same : x ≡ y = cc in
-    (ap (λ z. z.0) same, ap (λ z. z.1) same)
-
-opening_by : (bytes : List ℕ) (n : ℕ) (a b c d e f : TokenText) (ts : List TokenText) (main : Place) (rest : List Token) (found : Bool) → drop n (tokens_of bytes) ≡ a ∷ b ∷ c ∷ d ∷ e ∷ f ∷ ts → opens_main (lexeme_of a.text) (lexeme_of b.text) (lexeme_of c.text) (lexeme_of d.text) (lexeme_of e.text) (lexeme_of f.text) ≡ found → cond found (opened (place_at bytes b.start) (map (token_in bytes) ts)) None ≡ opened main rest → OpeningRead bytes n (a ∷ b ∷ c ∷ d ∷ e ∷ f ∷ ts) main rest
-opening_by bytes n a b c d e f ts main rest false here by h = absurd (cc)
-opening_by bytes n a b c d e f ts main rest true here by h =
-    let same = opened-parts (place_at bytes b.start) main (map (token_in bytes) ts) rest h in
-    let later : drop (n + 1) (tokens_of bytes) ≡ b ∷ c ∷ d ∷ e ∷ f ∷ ts = sym (drop-drop 1 n (tokens_of bytes)) ∙ ap (drop 1) here in
-    record {
-      spelled = ap (λ g. g ++ texts ts) (opening-texts a.text b.text c.text d.text e.text f.text by);
-      rest_is = sym same.1;
-      placed = sym same.0 ∙ ap (place_at bytes) (sym (start_at (tokens_of bytes) (n + 1) b (c ∷ d ∷ e ∷ f ∷ ts) later));
-    }
-
-pub opening_read : (bytes : List ℕ) (n : ℕ) (ts : List TokenText) (main : Place) (rest : List Token) → drop n (tokens_of bytes) ≡ ts → read_opening (map (token_in bytes) ts) ≡ opened main rest → OpeningRead bytes n ts main rest
-opening_read bytes n (a ∷ b ∷ c ∷ d ∷ e ∷ f ∷ ts) main rest here h =
-    opening_by bytes n a b c d e f ts main rest (opens_main (lexeme_of a.text) (lexeme_of b.text) (lexeme_of c.text) (lexeme_of d.text) (lexeme_of e.text) (lexeme_of f.text)) here refl h
-opening_read bytes n _ main rest here h = absurd (cc)
+pub over-stands : (bytes : List ℕ) (tokens : List Token) (p : Progress) → over bytes tokens beginning ≡ Some p → Stands p.position tokens p.declared p.main p.calls (texts_of bytes tokens)
+over-stands bytes tokens p h = all_over bytes tokens tokens 0 beginning p [] refl refl (record { prototypes = []; spelled = refl; declared_is = refl; no_calls = refl }) h

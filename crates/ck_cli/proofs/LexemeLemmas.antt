@@ -12,17 +12,17 @@ use Rattle.ck_cli.specs.Calls.{name_of, every_call}
 use Rattle.ck_cli.specs.Lexemes.{lexeme_of}
 
 -- the text of a token of the form
-abbrev pub text_of : Lexeme → List ℕ
-text_of Void = codes "void"
-text_of Int = codes "int"
-text_of Main = codes "main"
-text_of (Kernel call) = name_of call
-text_of Open = codes "("
-text_of Close = codes ")"
-text_of LeftBrace = codes "{"
-text_of RightBrace = codes "}"
-text_of Semicolon = codes ";"
-text_of Other = []
+abbrev pub word_of : Lexeme → List ℕ
+word_of Void = codes "void"
+word_of Int = codes "int"
+word_of Main = codes "main"
+word_of (Kernel call) = name_of call
+word_of Open = codes "("
+word_of Close = codes ")"
+word_of LeftBrace = codes "{"
+word_of RightBrace = codes "}"
+word_of Semicolon = codes ";"
+word_of Other = []
 
 pub lexeme_of-name : (call : KernelCall) → lexeme_of (name_of call) ≡ Kernel call
 lexeme_of-name Init = refl
@@ -34,9 +34,9 @@ lexeme_of-name Unlock = refl
 
 -- this is the lexeme's text, where it is one of the form
 Fits : Lexeme → List ℕ → Type 0
-Fits lexeme text = lexeme ≢ Other → text ≡ text_of lexeme
+Fits lexeme text = lexeme ≢ Other → text ≡ word_of lexeme
 
-fits_first : (b : Bool) (this next : Lexeme) (text : List ℕ) → (b ≡ true → text ≡ text_of this) → Fits next text → Fits (cond b this next) text
+fits_first : (b : Bool) (this next : Lexeme) (text : List ℕ) → (b ≡ true → text ≡ word_of this) → Fits next text → Fits (cond b this next) text
 unfolding Fits
 fits_first true this next text holds rest = λ _. holds refl
 fits_first false this next text holds rest = rest
@@ -68,7 +68,7 @@ fits_calls text =
     (fits_call _ Lock _ text (named text Lock)
     (fits_call _ Unlock _ text (named text Unlock) (fits_none text))))))
 
-pub lexeme_of-text : (text : List ℕ) → lexeme_of text ≢ Other → text ≡ text_of (lexeme_of text)
+pub lexeme_of-text : (text : List ℕ) → lexeme_of text ≢ Other → text ≡ word_of (lexeme_of text)
 unfolding Fits FitsCall
 lexeme_of-text text =
     fits_first _ Void _ text (same text (codes "void"))
@@ -81,5 +81,5 @@ lexeme_of-text text =
     (fits_first _ Semicolon _ text (same text (codes ";"))
     (fits_calls text))))))))
 
-pub text_of-lexeme : (text : List ℕ) (lexeme : Lexeme) → lexeme_of text ≡ lexeme → lexeme ≢ Other → text ≡ text_of lexeme
-text_of-lexeme text lexeme e known = lexeme_of-text text (λ o. known (sym e ∙ o)) ∙ ap text_of e
+pub word_of-lexeme : (text : List ℕ) (lexeme : Lexeme) → lexeme_of text ≡ lexeme → lexeme ≢ Other → text ≡ word_of lexeme
+word_of-lexeme text lexeme e known = lexeme_of-text text (λ o. known (sym e ∙ o)) ∙ ap word_of e

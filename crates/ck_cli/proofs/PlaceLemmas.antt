@@ -1,79 +1,65 @@
--- The place after more bytes.
-use Rattle.std.proofs.Common.{◌≡◌, ℕ, suc, ◌+◌, ◌≤◌, true, false, cond, take, drop, get_or, ◌<◌, subst, sym, List, [], ◌∷◌, ◌++◌, length, reverse, ap, ◌∙◌, refl, arith, append_assoc}
-use Rattle.std.proofs.lemmas.List.{reverse-append, append-nil, length-reverse, length-take-le}
-use Rattle.std.proofs.Math.Seq.{drop-cons, take-suc, take-add}
-use Rattle.std.proofs.lemmas.List.Sums.{sum_by-append, count_by-le-length, prefix_len-le-length}
-use Rattle.std.proofs.lemmas.Bool.Decides.{nat_tests}
-use Rattle.std.specs.List.{prefix_len}
-use Rattle.ck_cli.specs.Cutting.{front_of}
-use Rattle.ck_cli.specs.Tokens.{is_line_feed, is_no_line_feed, is_word_byte, place_after}
-use Rattle.ck_cli.proofs.Cuts.{either, front-word, front-other}
-use Rattle.ck_cli.specs.declared.places.Place.{Place}
+-- Where tokens begin, and their places.
+use Rattle.std.proofs.Common.{◌≡◌, ℕ, zero, suc, ◌+◌, ◌<◌, ◌≤◌, List, [], ◌∷◌, length, refl, sym, ap, ◌∙◌, subst, arith}
+use Rattle.std.specs.Prelude.{All, codes}
+use Rattle.ck_base.specs.declared.states.Kind.{Kind}
+use Rattle.ck_base.specs.declared.refusals.Unsupported.{Unsupported}
+use Rattle.ck_base.specs.declared.tokens.Token.{Token}
+use Rattle.ck_lexer.specs.Places.{Place}
+use Rattle.ck_cli.specs.declared.calls.KernelCall.{KernelCall}
+use Rattle.ck_cli.specs.declared.form.Call.{Call}
+use Rattle.ck_cli.specs.FileForm.{token_start, calls_from}
+use Rattle.ck_cli.specs.Stray.{IsStray, at_token, at_end}
+use Rattle.ck_cli.specs.Texts.{PlacedCall, place_text, unsupported_text, rejected_text}
+use Rattle.ck_cli.specs.Placed.{IsPlaceInMain, IsPlaced, ArePlaced, IsRefusalText, IsAlarmText}
+use Rattle.ck_lexer.proofs.OnePlace.{one_place}
 
--- a byte more
-pub place_after-line_feed : (xs : List ℕ) → place_after (xs ++ 10 ∷ []) ≡ record { line = (place_after xs).line + 1; column = 1 }
-place_after-line_feed xs = rw (sum_by-append (λ b. cond (is_line_feed b) 1 0) xs (10 ∷ []), reverse-append xs (10 ∷ [])) refl
+-- the spans are of the file
+abbrev pub AreInside : ℕ → List Token → Type 0
+AreInside size tokens = All (λ t. (t.span.start < t.span.end) × (t.span.end ≤ size)) tokens
 
-same_place : {a b c d : ℕ} → a ≡ b → c ≡ d → let p : Place = record { line = a; column = c } in p ≡ record { line = b; column = d }
-same_place e f = rw (e, f) refl
+pub start-within : (size : ℕ) (tokens : List Token) (n : ℕ) → AreInside size tokens → token_start tokens n ≤ size
+start-within size [] zero all = omega arith
+start-within size [] (suc n) all = omega arith
+start-within size (t ∷ tokens) zero all = omega (arith, all 0 t (omega arith))
+start-within size (t ∷ tokens) (suc n) all = start-within size tokens n (λ k u within. all (suc k) u (omega arith))
 
-pub place_after-push : (xs : List ℕ) (b : ℕ) → is_line_feed b ≡ false → place_after (xs ++ b ∷ []) ≡ record { line = (place_after xs).line; column = (place_after xs).column + 1 }
-place_after-push xs b other = rw (sum_by-append (λ b. cond (is_line_feed b) 1 0) xs (b ∷ []), reverse-append xs (b ∷ []), other) (same_place (omega arith) (omega arith))
+pub calls-within : (size : ℕ) (tokens : List Token) (n : ℕ) (calls : List KernelCall) → AreInside size tokens → All (λ c. c.start ≤ size) (calls_from tokens n calls)
+calls-within size tokens n [] all k c within = absurd (omega arith)
+calls-within size tokens n (call ∷ calls) all zero c within = start-within size tokens n all
+calls-within size tokens n (call ∷ calls) all (suc k) c within = calls-within size tokens (n + 4) calls all k c (omega arith)
 
--- none of these bytes is a line feed
-abbrev pub IsOneLine : List ℕ → Type 0
-IsOneLine [] = Unit {0}
-IsOneLine (b ∷ bytes) = (is_line_feed b ≡ false) × IsOneLine bytes
+pub stray-within : (bytes : List ℕ) (tokens : List Token) (offset : ℕ) → AreInside (length bytes) tokens → IsStray bytes tokens offset → offset ≤ length bytes
+stray-within bytes tokens _ all (at_token n within can_n not_n) = start-within (length bytes) tokens n all
+stray-within bytes tokens _ all (at_end can none) = omega arith
 
-pub place_after-along : (xs bytes : List ℕ) → IsOneLine bytes → place_after (xs ++ bytes) ≡ record { line = (place_after xs).line; column = (place_after xs).column + length bytes }
-place_after-along xs [] line = rw (append-nil xs) (same_place refl (omega arith))
-place_after-along xs (b ∷ bytes) line =
-    let moved : xs ++ b ∷ bytes ≡ (xs ++ b ∷ []) ++ bytes = rw append_assoc refl in
-    let here : place_after (xs ++ b ∷ []) ≡ record { line = (place_after xs).line; column = (place_after xs).column + 1 } = place_after-push xs b line.0 in
-    let column : (place_after (xs ++ b ∷ [])).column + length bytes ≡ (place_after xs).column + length (b ∷ bytes) = ap (λ p. p.column + length bytes) here ∙ omega arith in
-    ap place_after moved ∙ (place_after-along (xs ++ b ∷ []) bytes line.1 ∙ same_place (ap (λ p. p.line) here) column)
+-- places are one
+same_parts : (a b : KernelCall) (p q : Place) → a ≡ b → p ≡ q → let x : PlacedCall = record { call = a; place = p } in x ≡ record { call = b; place = q }
+same_parts a b p q e f = rw (e, f) refl
 
-word_is_no_line_feed : (b : ℕ) → is_word_byte b ≡ true → is_line_feed b ≡ false
-word_is_no_line_feed b word = grind (arith, nat_tests)
+one_placed : (bytes : List ℕ) (c : Call) (p q : PlacedCall) → IsPlaced bytes c p → IsPlaced bytes c q → p ≡ q
+one_placed bytes c p q is_p is_q = same_parts p.call q.call p.place q.place (is_p.call ∙ sym is_q.call) (one_place (codes "main.i") bytes c.start p.place q.place is_p.place is_q.place)
 
-longer_line : (b : ℕ) (bytes : List ℕ) → IsOneLine (take (prefix_len is_word_byte bytes) bytes) → is_word_byte b ≡ true → IsOneLine (take (prefix_len is_word_byte (b ∷ bytes)) (b ∷ bytes))
-longer_line b bytes rest word =
-    let one : 1 + prefix_len is_word_byte bytes ≡ suc (prefix_len is_word_byte bytes) = omega arith in
-    rw (word, one) (word_is_no_line_feed b word, rest)
+one_by_one : (bytes : List ℕ) (calls : List Call) (ps qs : List PlacedCall) → ArePlaced bytes calls ps → ArePlaced bytes calls qs → ps ≡ qs
+one_by_one bytes [] [] [] are_p are_q = refl
+one_by_one bytes (c ∷ calls) (p ∷ ps) (q ∷ qs) are_p are_q =
+    ap (λ x. x ∷ ps) (one_placed bytes c p q are_p.0 are_q.0) ∙ ap (λ xs. q ∷ xs) (one_by_one bytes calls ps qs are_p.1 are_q.1)
+one_by_one bytes [] (p ∷ ps) qs are_p are_q = absurd are_p
+one_by_one bytes [] [] (q ∷ qs) are_p are_q = absurd are_q
+one_by_one bytes (c ∷ calls) [] qs are_p are_q = absurd are_p
+one_by_one bytes (c ∷ calls) (p ∷ ps) [] are_p are_q = absurd are_q
 
-no_line : (b : ℕ) (bytes : List ℕ) → is_word_byte b ≡ false → IsOneLine (take (prefix_len is_word_byte (b ∷ bytes)) (b ∷ bytes))
-no_line b bytes other = rw other tt
+-- texts are one
+pub one_refusal : (bytes : List ℕ) (j k : Unsupported) (m n : ℕ) (a b : List ℕ) → j ≡ k → m ≡ n → IsRefusalText bytes j m a → IsRefusalText bytes k n b → a ≡ b
+one_refusal bytes j k m n a b same_kind same_offset is_a is_b =
+    let same : is_a.place ≡ is_b.place = one_place (codes "main.i") bytes n is_a.place is_b.place (subst (λ o. IsPlaceInMain bytes o is_a.place) same_offset is_a.there) is_b.there in
+    is_a.written ∙ (ap (λ p. unsupported_text j (place_text p)) same ∙ (ap (λ k. unsupported_text k (place_text is_b.place)) same_kind ∙ sym is_b.written))
 
-IsOneLine-word : (bytes : List ℕ) → IsOneLine (take (prefix_len is_word_byte bytes) bytes)
-IsOneLine-word [] = tt
-IsOneLine-word (b ∷ bytes) = either (is_word_byte b) (longer_line b bytes (IsOneLine-word bytes)) (no_line b bytes)
+same_text : (m n : Place) (a b : List PlacedCall) (c d : PlacedCall) (j k : Kind) → m ≡ n → a ≡ b → c ≡ d → j ≡ k → rejected_text m a c j ≡ rejected_text n b d k
+same_text m n a b c d j k e f g h = ap (λ x. rejected_text x a c j) e ∙ (ap (λ x. rejected_text n x c j) f ∙ (ap (λ x. rejected_text n b x j) g ∙ ap (λ x. rejected_text n b d x) h))
 
-IsOneLine-front : (b : ℕ) (bytes : List ℕ) → is_line_feed b ≡ false → IsOneLine (take (front_of (b ∷ bytes)) (b ∷ bytes))
-IsOneLine-front b bytes here = either (is_word_byte b) as_word as_other where
-  as_word : is_word_byte b ≡ true → IsOneLine (take (front_of (b ∷ bytes)) (b ∷ bytes))
-  as_word word = rw (front-word b bytes word) (here, IsOneLine-word bytes)
-
-  as_other : is_word_byte b ≡ false → IsOneLine (take (front_of (b ∷ bytes)) (b ∷ bytes))
-  as_other other = rw (front-other b bytes other) (here, tt)
-
--- in the midst of the bytes, after the front of the rest
-pub place-at_line_feed : (bytes : List ℕ) (at : ℕ) → at < length bytes → get_or bytes at 0 ≡ 10 → place_after (take (at + front_of (drop at bytes)) bytes) ≡ record { line = (place_after (take at bytes)).line + 1; column = 1 }
-place-at_line_feed bytes at within feed =
-    let one : front_of (drop at bytes) ≡ 1 = ap front_of (drop-cons bytes at 0 within) ∙ front-other (get_or bytes at 0) (drop (suc at) bytes) (rw feed refl) in
-    let moved : at + front_of (drop at bytes) ≡ suc at = omega arith in
-    let pushed : take (suc at) bytes ≡ take at bytes ++ 10 ∷ [] = take-suc bytes at 0 within ∙ ap (λ b. take at bytes ++ b ∷ []) feed in
-    ap (λ n. place_after (take n bytes)) moved ∙ (ap place_after pushed ∙ place_after-line_feed (take at bytes))
-
-pub place-at_other : (bytes : List ℕ) (at : ℕ) → at < length bytes → is_line_feed (get_or bytes at 0) ≡ false → front_of (drop at bytes) ≤ length (drop at bytes) → place_after (take (at + front_of (drop at bytes)) bytes) ≡ record { line = (place_after (take at bytes)).line; column = (place_after (take at bytes)).column + front_of (drop at bytes) }
-place-at_other bytes at within other fits =
-    let line : IsOneLine (take (front_of (drop at bytes)) (drop at bytes)) = subst (λ rest. IsOneLine (take (front_of rest) rest)) (sym (drop-cons bytes at 0 within)) (IsOneLine-front (get_or bytes at 0) (drop (suc at) bytes) other) in
-    let long : length (take (front_of (drop at bytes)) (drop at bytes)) ≡ front_of (drop at bytes) = length-take-le (front_of (drop at bytes)) (drop at bytes) fits in
-    ap place_after (take-add at (front_of (drop at bytes)) bytes) ∙
-    (place_after-along (take at bytes) (take (front_of (drop at bytes)) (drop at bytes)) line ∙ same_place refl (ap (λ n. (place_after (take at bytes)).column + n) long))
-
--- how far the places go
-pub line-le : (xs : List ℕ) → (place_after xs).line ≤ length xs + 1
-line-le xs = omega (arith, count_by-le-length is_line_feed xs)
-
-pub column-le : (xs : List ℕ) → (place_after xs).column ≤ length xs + 1
-column-le xs = omega (arith, prefix_len-le-length is_no_line_feed (reverse xs), length-reverse xs)
+pub one_alarm : (bytes : List ℕ) (m n : ℕ) (before_a before_b : List Call) (c d : Call) (j k : Kind) (a b : List ℕ) → m ≡ n → before_a ≡ before_b → c ≡ d → j ≡ k → IsAlarmText bytes m before_a c j a → IsAlarmText bytes n before_b d k b → a ≡ b
+one_alarm bytes m n before_a before_b c d j k a b e f g h is_a is_b =
+    is_a.written ∙ (same_text is_a.main_place is_b.main_place is_a.acts is_b.acts is_a.last is_b.last j k
+    (one_place (codes "main.i") bytes n is_a.main_place is_b.main_place (subst (λ o. IsPlaceInMain bytes o is_a.main_place) e is_a.of_main) is_b.of_main)
+    (one_by_one bytes before_b is_a.acts is_b.acts (subst (λ cs. ArePlaced bytes cs is_a.acts) f is_a.of_acts) is_b.of_acts)
+    (one_placed bytes d is_a.last is_b.last (subst (λ x. IsPlaced bytes x is_a.last) g is_a.of_last) is_b.of_last) h ∙ sym is_b.written)

@@ -10,7 +10,7 @@ use Rattle.std.proofs.lemmas.List.Sums.{AllPass-from_list_all, list_all-from_All
 use Rattle.std.proofs.lemmas.List.Sorted.{All-permutation, Contains-permutation, IsPermutation-sym}
 use Rattle.ck_io.specs.Outside.{File, Files, names_of, bytes_of, TellsNames, HasName, HasBytes, IsTooLong}
 use Rattle.ck_cli.specs.Door.{HasJustMain, is_source, main_name, most_bytes}
-use Rattle.ck_cli.proofs.Cuts.{either}
+use Rattle.ck_cli.proofs.Cases.{either}
 use Rattle.ck_cli.specs.MainFile.{IsMissing, IsTooLarge, IsReadAs}
 
 same_bytes : (a b : List ℕ) → bytes_eq a b ≡ true → a ≡ b

@@ -7,34 +7,35 @@ use Rattle.ck_io.specs.Outside.{Files, Appends}
 use Rattle.ck_cli.specs.declared.calls.KernelCall.{KernelCall}
 use Rattle.ck_cli.specs.declared.form.Call.{Call}
 use Rattle.ck_cli.specs.Calls.{op_of}
-use Rattle.ck_cli.specs.FileForm.{FileForm, placed_calls, calls_from}
+use Rattle.ck_base.specs.declared.tokens.Token.{Token}
+use Rattle.ck_cli.specs.FileForm.{FileForm, made_calls, calls_from}
 use Rattle.ck_cli.specs.Walk.{Passes}
 use Rattle.ck_cli.specs.Walking.{walk}
 use Rattle.ck_cli.specs.Kernel.{HaltsNowhere, KernelIsQuiet}
-use Rattle.ck_cli.specs.Verdict.{IsVerdict, accepted, rejected, unreadable}
+use Rattle.ck_cli.specs.Verdict.{IsVerdict, faulty, stray, accepted, rejected}
 use Rattle.ck_cli.specs.Door.{IsAnswer, no_main, too_large, judged, Answers, Reports, IsQuietOn, KernelIsQuietOn}
 use Rattle.ck_cli.proofs.KernelLemmas.{halts_nowhere}
-use Rattle.ck_cli.proofs.OneAnswer.{same_form}
 use Rattle.ck_cli.proofs.WalkLemmas.{Alarms-from_walk}
 
-ops_of-from : (bytes : List ℕ) (n : ℕ) (calls : List KernelCall) → map (λ c. op_of c.call) (calls_from bytes n calls) ≡ map op_of calls
-ops_of-from bytes n [] = refl
-ops_of-from bytes n (call ∷ calls) = ap (λ r. op_of call ∷ r) (ops_of-from bytes (n + 4) calls)
+ops_of-from : (tokens : List Token) (n : ℕ) (calls : List KernelCall) → map (λ c. op_of c.call) (calls_from tokens n calls) ≡ map op_of calls
+ops_of-from tokens n [] = refl
+ops_of-from tokens n (call ∷ calls) = ap (λ r. op_of call ∷ r) (ops_of-from tokens (n + 4) calls)
 
 walk-passes_by : (calls : List Call) (found : Option (List Call × Call × Kind)) → walk TI [] calls ≡ found → Passes calls → walk TI [] calls ≡ None
 walk-passes_by calls None walked passes = walked
 walk-passes_by calls (Some found) walked passes = absurd (passes found.0 found.1 found.2 (Alarms-from_walk calls found.0 found.1 found.2 walked))
 
 -- calls that pass
-quiet_form : (bytes : List ℕ) (form : FileForm) → Passes (placed_calls form bytes) → HaltsNowhere (counters_of TI) (map op_of form.calls)
-quiet_form bytes form passes =
-    subst (HaltsNowhere (counters_of TI)) (ops_of-from bytes (6 * length form.prototypes + 6) form.calls)
-    (halts_nowhere TI [] (placed_calls form bytes) (walk-passes_by (placed_calls form bytes) (walk TI [] (placed_calls form bytes)) refl passes))
+quiet_form : (tokens : List Token) (form : FileForm) → Passes (made_calls form tokens) → HaltsNowhere (counters_of TI) (map op_of form.calls)
+quiet_form tokens form passes =
+    subst (HaltsNowhere (counters_of TI)) (ops_of-from tokens (6 * length form.prototypes + 6) form.calls)
+    (halts_nowhere TI [] (made_calls form tokens) (walk-passes_by (made_calls form tokens) (walk TI [] (made_calls form tokens)) refl passes))
 
 quiet_verdict : (bytes : List ℕ) (s : ℕ) (text : List ℕ) → IsVerdict bytes s text → s ≡ 0 → KernelIsQuiet bytes
-quiet_verdict bytes _ _ (accepted f spells passes) zero_is = λ form spells_form. quiet_form bytes form (subst Passes (same_form bytes f form spells spells_form).1 passes)
-quiet_verdict bytes _ _ (rejected f before call kind spells alarms) zero_is = absurd (cc)
-quiet_verdict bytes _ _ (unreadable none) zero_is = absurd (cc)
+quiet_verdict bytes _ _ (accepted tokens form of_bytes spells passes) zero_is = record { tokens = tokens; of_bytes = of_bytes; form = form; spelled = spells; halts_nowhere = quiet_form tokens form passes }
+quiet_verdict bytes _ text (faulty r x is_r at_x text_r) zero_is = absurd (cc)
+quiet_verdict bytes _ text (stray tokens n of_bytes is_n text_n) zero_is = absurd (cc)
+quiet_verdict bytes _ text (rejected tokens form before call kind of_bytes spells alarms text_f) zero_is = absurd (cc)
 
 quiet_answer : (files : Files) (s : ℕ) (text : List ℕ) → IsAnswer files s text → s ≡ 0 → IsQuietOn files
 quiet_answer files _ _ (no_main absent) zero_is = absurd (cc)

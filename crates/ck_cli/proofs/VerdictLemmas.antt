@@ -1,41 +1,70 @@
 -- What the reader and the walk found is what the bytes are answered.
-use Rattle.std.proofs.Common.{◌≡◌, ℕ, List, [], map, Option, Some, None, refl, sym, ap, ◌∙◌, subst}
-use Rattle.std.specs.Prelude.{codes}
+use Rattle.std.proofs.Common.{◌≡◌, ℕ, zero, suc, ◌<◌, ◌≤◌, List, [], ◌∷◌, ◌++◌, length, get_or, Option, Some, None, refl, sym, subst, arith}
+use Rattle.std.specs.Prelude.{All}
+use Rattle.ck_base.specs.declared.refusals.Refusal.{Refusal}
+use Rattle.ck_base.specs.declared.refusals.Spot.TheVariants.{At}
 use Rattle.ck_base.specs.declared.refusals.Unsupported.TheVariants.{U7}
+use Rattle.ck_base.specs.declared.spans.Span.{Span}
 use Rattle.ck_base.specs.declared.states.Kind.{Kind}
 use Rattle.ck_base.specs.declared.states.State.TheVariants.{TI}
+use Rattle.ck_base.specs.declared.tokens.Token.{Token}
+use Rattle.ck_lexer.specs.Tokens.{AreTokens, IsFirstFault}
 use Rattle.ck_cli.specs.declared.form.Call.{Call}
-use Rattle.ck_cli.specs.declared.places.Place.{Place}
-use Rattle.ck_cli.specs.declared.tokens.Token.{Token}
-use Rattle.ck_cli.specs.Tokens.{tokens_of}
-use Rattle.ck_cli.specs.Lexemes.{token_in}
-use Rattle.ck_cli.specs.Reader.{read_form}
-use Rattle.ck_cli.specs.FileForm.{FileForm, Spells, main_place, placed_calls}
-use Rattle.ck_cli.specs.Walk.{Alarms, Passes}
+use Rattle.ck_cli.specs.FileForm.{FileForm, Spells, main_start, made_calls}
+use Rattle.ck_cli.specs.Placed.{IsRefusalText}
+use Rattle.ck_cli.specs.Stray.{IsStray}
 use Rattle.ck_cli.specs.Walking.{walk}
-use Rattle.ck_cli.specs.Walked.{answered_by}
-use Rattle.ck_cli.specs.Texts.{rejected_text, unsupported_text}
-use Rattle.ck_cli.specs.Verdict.{IsVerdict, accepted, rejected, unreadable}
-use Rattle.ck_cli.proofs.FormWhole.{IsRead, whole, read_form-sound}
-use Rattle.ck_cli.proofs.FormComplete.{unread_is_no_form}
+use Rattle.ck_cli.specs.Walked.{answered_by, IsWalked}
+use Rattle.ck_cli.specs.Verdict.{IsVerdict, faulty, stray, accepted, rejected}
+use Rattle.ck_lexer.proofs.Rising.{tokens-below}
+use Rattle.ck_cli.proofs.PlaceLemmas.{start-within, calls-within, stray-within}
+use Rattle.ck_cli.proofs.ReadingLemmas.{IsForm}
 use Rattle.ck_cli.proofs.WalkLemmas.{Alarms-from_walk, Passes-from_walk}
 
-pub unreadable_verdict : (bytes : List ℕ) (tokens : List Token) (text : List ℕ) → tokens ≡ map (token_in bytes) (tokens_of bytes) → None ≡ read_form tokens → text ≡ unsupported_text U7 (codes "-") → IsVerdict bytes 2 text
-unreadable_verdict bytes tokens text cut read is_text =
-    subst (IsVerdict bytes 2) (sym is_text) (unreadable (unread_is_no_form bytes (ap read_form (sym cut) ∙ sym read)))
+pub faulty_verdict : (bytes : List ℕ) (refusal : Refusal) (span : Span) (status : ℕ) (text : List ℕ) → IsFirstFault 0 bytes refusal → refusal.at ≡ At span → status ≡ 2 → IsRefusalText bytes refusal.kind span.start text → IsVerdict bytes status text
+faulty_verdict bytes refusal span status text first at is_two refused = subst (λ s. IsVerdict bytes s text) (sym is_two) (faulty refusal span first at refused)
 
-walked_verdict : (bytes : List ℕ) (form : FileForm) (main : Place) (calls : List Call) (found : Option (List Call × Call × Kind)) (status : ℕ) (text : List ℕ) → Spells form bytes → main ≡ main_place form bytes → calls ≡ placed_calls form bytes → walk TI [] calls ≡ found → answered_by main found status text → IsVerdict bytes status text
-walked_verdict bytes form main calls None status text spells main_is calls_are walked answer =
-    subst (λ s. IsVerdict bytes s text) (sym answer.0) (subst (IsVerdict bytes 0) (sym answer.1) (accepted form spells (subst Passes calls_are (Passes-from_walk calls walked))))
-walked_verdict bytes form main calls (Some found) status text spells main_is calls_are walked answer =
-    let alarms = Alarms-from_walk calls found.0 found.1 found.2 walked in
-    let same : text ≡ rejected_text (main_place form bytes) found.0 found.1 found.2 = answer.1 ∙ ap (λ m. rejected_text m found.0 found.1 found.2) main_is in
-    subst (λ s. IsVerdict bytes s text) (sym answer.0) (subst (IsVerdict bytes 1) (sym same) (rejected form found.0 found.1 found.2 spells (subst (λ cs. Alarms cs found.0 found.1 found.2) calls_are alarms)))
+pub stray_verdict : (bytes : List ℕ) (tokens : List Token) (offset : ℕ) (status : ℕ) (text : List ℕ) → AreTokens 0 bytes tokens → IsStray bytes tokens offset → status ≡ 2 → IsRefusalText bytes U7 offset text → IsVerdict bytes status text
+stray_verdict bytes tokens offset status text of_bytes is is_two refused = subst (λ s. IsVerdict bytes s text) (sym is_two) (stray tokens offset of_bytes is refused)
 
-read_verdict : (bytes : List ℕ) (main : Place) (calls : List Call) (status : ℕ) (text : List ℕ) → ((form : FileForm) × IsRead bytes form main calls) → answered_by main (walk TI [] calls) status text → IsVerdict bytes status text
-read_verdict bytes main calls status text read answer =
-    walked_verdict bytes read.0 main calls (walk TI [] calls) status text read.1.spells read.1.main_is read.1.calls_are refl answer
+walked_by : (bytes : List ℕ) (tokens : List Token) (form : FileForm) (found : Option (List Call × Call × Kind)) (status : ℕ) (text : List ℕ) → AreTokens 0 bytes tokens → Spells form bytes tokens → walk TI [] (made_calls form tokens) ≡ found → answered_by bytes (main_start form tokens) found status text → IsVerdict bytes status text
+walked_by bytes tokens form None status text of_bytes spells walked answer =
+    subst (λ s. IsVerdict bytes s text) (sym answer.0) (subst (IsVerdict bytes 0) (sym answer.1) (accepted tokens form of_bytes spells (Passes-from_walk (made_calls form tokens) walked)))
+walked_by bytes tokens form (Some found) status text of_bytes spells walked answer =
+    subst (λ s. IsVerdict bytes s text) (sym answer.0) (rejected tokens form found.0 found.1 found.2 of_bytes spells (Alarms-from_walk (made_calls form tokens) found.0 found.1 found.2 walked) answer.1)
 
-pub form_verdict : (bytes : List ℕ) (tokens : List Token) (main : Place) (calls : List Call) (status : ℕ) (text : List ℕ) → tokens ≡ map (token_in bytes) (tokens_of bytes) → whole main calls ≡ read_form tokens → answered_by main (walk TI [] calls) status text → IsVerdict bytes status text
-form_verdict bytes tokens main calls status text cut read answer =
-    read_verdict bytes main calls status text (read_form-sound bytes main calls (ap read_form (sym cut) ∙ sym read)) answer
+pub walked_verdict : (bytes : List ℕ) (tokens : List Token) (main : ℕ) (calls : List Call) (status : ℕ) (text : List ℕ) → AreTokens 0 bytes tokens → IsForm bytes tokens main calls → IsWalked bytes main calls status text → IsVerdict bytes status text
+walked_verdict bytes tokens main calls status text of_bytes is answer =
+    walked_by bytes tokens is.form (walk TI [] (made_calls is.form tokens)) status text of_bytes is.spells refl
+    (subst (λ m. IsWalked bytes m (made_calls is.form tokens) status text) is.main_is (subst (λ cs. IsWalked bytes main cs status text) is.calls_are answer))
+
+-- main and the calls begin in the file
+pub main-inside : (bytes : List ℕ) (tokens : List Token) (main : ℕ) (calls : List Call) → AreTokens 0 bytes tokens → IsForm bytes tokens main calls → main ≤ length bytes
+main-inside bytes tokens main calls of_bytes is = subst (λ m. m ≤ length bytes) (sym is.main_is) (start-within (length bytes) tokens _ (tokens-below 0 bytes tokens of_bytes))
+
+pub calls-inside : (bytes : List ℕ) (tokens : List Token) (main : ℕ) (calls : List Call) → AreTokens 0 bytes tokens → IsForm bytes tokens main calls → All (λ c. c.start ≤ length bytes) calls
+calls-inside bytes tokens main calls of_bytes is = subst (All (λ c. c.start ≤ length bytes)) (sym is.calls_are) (calls-within (length bytes) tokens _ is.form.calls (tokens-below 0 bytes tokens of_bytes))
+
+-- the alarm's call and those before it begin in the file
+all_cons : (P : Call → Type 0) (c : Call) (calls : List Call) → P c → All P calls → (k : ℕ) (d : Call) → k < length (c ∷ calls) → P (get_or (c ∷ calls) k d)
+all_cons P c calls first rest zero d within = first
+all_cons P c calls first rest (suc k) d within = rest k d (omega arith)
+
+all_split : (P : Call → Type 0) (before after : List Call) (call : Call) → All P (before ++ call ∷ after) → All P before × P call
+all_split P [] after call all = (λ k d within. absurd (omega arith), all 0 call (omega arith))
+all_split P (b ∷ before) after call all =
+    let rest = all_split P before after call (λ k d within. all (suc k) d (omega arith)) in
+    (all_cons P b before (all 0 b (omega arith)) rest.0, rest.1)
+
+pub alarm-inside : (size : ℕ) (calls before : List Call) (call : Call) (kind : Kind) → walk TI [] calls ≡ Some (before, call, kind) → All (λ c. c.start ≤ size) calls → All (λ c. c.start ≤ size) before × (call.start ≤ size)
+alarm-inside size calls before call kind walked all =
+    let alarms = Alarms-from_walk calls before call kind walked in
+    all_split (λ c. c.start ≤ size) before alarms.after call (subst (All (λ c. c.start ≤ size)) alarms.split all)
+
+-- each span is a run of the file's bytes
+pub spans-inside : (bytes : List ℕ) (tokens : List Token) → AreTokens 0 bytes tokens → All (λ t. (t.span.start ≤ t.span.end) × (t.span.end ≤ length bytes)) tokens
+spans-inside bytes tokens of_bytes k t within = let inside = tokens-below 0 bytes tokens of_bytes k t within in (omega (arith, inside.0), inside.1)
+
+-- a stray token begins in the file
+pub stray-inside : (bytes : List ℕ) (tokens : List Token) (offset : ℕ) → AreTokens 0 bytes tokens → IsStray bytes tokens offset → offset ≤ length bytes
+stray-inside bytes tokens offset of_bytes is = stray-within bytes tokens offset (tokens-below 0 bytes tokens of_bytes) is

@@ -1,12 +1,11 @@
 -- The file form: any number of prototypes, then `main` with any number of calls, each of a call that has a
 -- prototype. docs/REPORT.md, "The file that is read", has it in words.
-use Rattle.std.specs.Prelude.{◌≡◌, ℕ, ◌+◌, ◌*◌, List, [], ◌∷◌, ◌++◌, map, length, codes, slice_index, All, Contains}
+use Rattle.std.specs.Prelude.{◌≡◌, ℕ, ◌+◌, ◌*◌, List, [], ◌∷◌, ◌++◌, map, length, codes, slice_index, slice_range, All, Contains}
 use Rattle.std.specs.List.{flat_map}
+use Rattle.ck_base.specs.declared.tokens.Token.{Token}
 use Rattle.ck_cli.specs.declared.calls.KernelCall.{KernelCall}
 use Rattle.ck_cli.specs.declared.form.Call.{Call}
-use Rattle.ck_cli.specs.declared.places.Place.{Place}
 use Rattle.ck_cli.specs.Calls.{name_of}
-use Rattle.ck_cli.specs.Tokens.{tokens_of, place_at}
 
 pub record FileForm : Type 0 where
   pub prototypes : List KernelCall
@@ -32,24 +31,35 @@ closing = codes "}" ∷ []
 abbrev pub spelling : FileForm → List (List ℕ)
 spelling form = flat_map prototype form.prototypes ++ (opening ++ (flat_map statement form.calls ++ closing))
 
--- the bytes are a file of this form
-pub record Spells (form : FileForm) (bytes : List ℕ) : Type 0 where
-  pub texts : map (λ t. t.text) (tokens_of bytes) ≡ spelling form
-  pub declared : All (Contains form.prototypes) form.calls
+-- each called name has a prototype
+abbrev pub IsDeclared : FileForm → Type 0
+IsDeclared form = All (Contains form.prototypes) form.calls
 
--- the place of the file's n-th token, counted from 0
-abbrev pub token_place : List ℕ → ℕ → Place
-token_place bytes n = place_at bytes (slice_index (map (λ t. t.start) (tokens_of bytes)) n)
+-- a token's text: the bytes of its span
+abbrev pub text_of : List ℕ → Token → List ℕ
+text_of bytes t = slice_range bytes t.span.start t.span.end
 
--- the place of the name `main`, which is the second token after the prototypes
-abbrev pub main_place : FileForm → List ℕ → Place
-main_place form bytes = token_place bytes (6 * length form.prototypes + 1)
+abbrev pub texts_of : List ℕ → List Token → List (List ℕ)
+texts_of bytes tokens = map (text_of bytes) tokens
 
--- calls with their places, where the first of them begins at the file's n-th token
-abbrev pub calls_from : List ℕ → ℕ → List KernelCall → List Call
-calls_from bytes n [] = []
-calls_from bytes n (call ∷ calls) = record { call = call; place = token_place bytes n } ∷ calls_from bytes (n + 4) calls
+-- these tokens of the bytes are a file of this form
+pub record Spells (form : FileForm) (bytes : List ℕ) (tokens : List Token) : Type 0 where
+  pub texts : texts_of bytes tokens ≡ spelling form
+  pub declared : IsDeclared form
 
--- the file's calls with their places
-abbrev pub placed_calls : FileForm → List ℕ → List Call
-placed_calls form bytes = calls_from bytes (6 * length form.prototypes + 6) form.calls
+-- the offset at which the n-th token begins, counted from 0
+abbrev pub token_start : List Token → ℕ → ℕ
+token_start tokens n = slice_index (map (λ t. t.span.start) tokens) n
+
+-- where the name `main` begins, which is the second token after the prototypes
+abbrev pub main_start : FileForm → List Token → ℕ
+main_start form tokens = token_start tokens (6 * length form.prototypes + 1)
+
+-- calls with the offsets at which they begin, where the first of them begins with the n-th token
+abbrev pub calls_from : List Token → ℕ → List KernelCall → List Call
+calls_from tokens n [] = []
+calls_from tokens n (call ∷ calls) = record { call = call; start = token_start tokens n } ∷ calls_from tokens (n + 4) calls
+
+-- the file's calls with the offsets at which they begin
+abbrev pub made_calls : FileForm → List Token → List Call
+made_calls form tokens = calls_from tokens (6 * length form.prototypes + 6) form.calls

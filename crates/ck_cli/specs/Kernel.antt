@@ -2,7 +2,9 @@
 -- Nothing here knows of system states.
 use Rattle.std.specs.Prelude.{◌≡◌, ℕ, pos, List, [], ◌∷◌, None, map}
 use Rattle.ck_base.specs.declared.ops.Op.{Op}
+use Rattle.ck_base.specs.declared.tokens.Token.{Token}
 use Rattle.ck_base.specs.Counters.{Counters, counters, kernel_halt, counters_after}
+use Rattle.ck_lexer.specs.Tokens.{AreTokens}
 use Rattle.ck_cli.specs.FileForm.{FileForm, Spells}
 use Rattle.ck_cli.specs.Calls.{op_of}
 
@@ -15,6 +17,10 @@ HaltsNowhere c (op ∷ ops) = (kernel_halt op c ≡ None) × HaltsNowhere (count
 abbrev pub KernelHaltsNowhere : FileForm → Type 0
 KernelHaltsNowhere form = HaltsNowhere (counters (pos 0) (pos 0)) (map op_of form.calls)
 
--- the kernel halts nowhere on these bytes, whatever form they spell
-abbrev pub KernelIsQuiet : List ℕ → Type 0
-KernelIsQuiet bytes = (form : FileForm) → Spells form bytes → KernelHaltsNowhere form
+-- the tokens of the bytes are a file of the form, and the kernel halts nowhere on its calls
+pub record KernelIsQuiet (bytes : List ℕ) : Type 0 where
+  pub tokens : List Token
+  pub of_bytes : AreTokens 0 bytes tokens
+  pub form : FileForm
+  pub spelled : Spells form bytes tokens
+  pub halts_nowhere : KernelHaltsNowhere form

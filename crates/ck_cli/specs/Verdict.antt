@@ -1,16 +1,26 @@
--- What the bytes of main.i are answered: a status and a text. docs/REPORT.md, "The statuses".
-use Rattle.std.specs.Prelude.{ℕ, List, codes}
+-- What the bytes of main.i are answered: a status and a text. docs/REPORT.md, "The statuses". The tokens are those of
+-- the lexer's definition, and main.i is file 0.
+use Rattle.std.specs.Prelude.{◌≡◌, ℕ, List}
+use Rattle.ck_base.specs.declared.spans.Span.{Span}
 use Rattle.ck_base.specs.declared.states.Kind.{Kind}
+use Rattle.ck_base.specs.declared.refusals.Refusal.{Refusal}
+use Rattle.ck_base.specs.declared.refusals.Spot.TheVariants.{At}
 use Rattle.ck_base.specs.declared.refusals.Unsupported.TheVariants.{U7}
+use Rattle.ck_base.specs.declared.tokens.Token.{Token}
+use Rattle.ck_lexer.specs.Tokens.{AreTokens, IsFirstFault}
 use Rattle.ck_cli.specs.declared.form.Call.{Call}
-use Rattle.ck_cli.specs.FileForm.{FileForm, Spells, main_place, placed_calls}
+use Rattle.ck_cli.specs.FileForm.{FileForm, Spells, main_start, made_calls}
+use Rattle.ck_cli.specs.Stray.{IsStray}
 use Rattle.ck_cli.specs.Walk.{Alarms, Passes}
-use Rattle.ck_cli.specs.Texts.{accepted_text, rejected_text, unsupported_text}
+use Rattle.ck_cli.specs.Texts.{accepted_text}
+use Rattle.ck_cli.specs.Placed.{IsRefusalText, IsAlarmText}
 
-pub data IsVerdict : List ℕ → ℕ → List ℕ → Type 0 where
-  -- 0 where the file is of the form and no call alarms
-  accepted : {bytes : List ℕ} (form : FileForm) → Spells form bytes → Passes (placed_calls form bytes) → IsVerdict bytes 0 accepted_text
-  -- 1 where the file is of the form and a call alarms
-  rejected : {bytes : List ℕ} (form : FileForm) (before : List Call) (call : Call) (kind : Kind) → Spells form bytes → Alarms (placed_calls form bytes) before call kind → IsVerdict bytes 1 (rejected_text (main_place form bytes) before call kind)
-  -- 2 where the file is of no form
-  unreadable : {bytes : List ℕ} → ((form : FileForm) → Spells form bytes → ⊥) → IsVerdict bytes 2 (unsupported_text U7 (codes "-"))
+pub data IsVerdict (bytes : List ℕ) : ℕ → List ℕ → Type 0 where
+  -- 2 where the bytes have a fault, U1 to U6: the first one, at the first byte of its span
+  faulty : {text : List ℕ} (refusal : Refusal) (span : Span) → IsFirstFault 0 bytes refusal → refusal.at ≡ At span → IsRefusalText bytes refusal.kind span.start text → IsVerdict bytes 2 text
+  -- 2 where their tokens are no file of the form: U7, where they stop being one
+  stray : {text : List ℕ} (tokens : List Token) (offset : ℕ) → AreTokens 0 bytes tokens → IsStray bytes tokens offset → IsRefusalText bytes U7 offset text → IsVerdict bytes 2 text
+  -- 0 where the tokens are a file of the form and no call alarms
+  accepted : (tokens : List Token) (form : FileForm) → AreTokens 0 bytes tokens → Spells form bytes tokens → Passes (made_calls form tokens) → IsVerdict bytes 0 accepted_text
+  -- 1 where they are one and a call alarms
+  rejected : {text : List ℕ} (tokens : List Token) (form : FileForm) (before : List Call) (call : Call) (kind : Kind) → AreTokens 0 bytes tokens → Spells form bytes tokens → Alarms (made_calls form tokens) before call kind → IsAlarmText bytes (main_start form tokens) before call kind text → IsVerdict bytes 1 text

@@ -4,13 +4,13 @@ use Rattle.std.specs.Prelude.{◌≡◌, ℕ, List, [], Option, Some, None}
 use Rattle.ck_base.specs.declared.states.Kind.{Kind}
 use Rattle.ck_base.specs.declared.states.State.TheVariants.{TI}
 use Rattle.ck_cli.specs.declared.form.Call.{Call}
-use Rattle.ck_cli.specs.declared.places.Place.{Place}
-use Rattle.ck_cli.specs.Texts.{accepted_text, rejected_text}
+use Rattle.ck_cli.specs.Placed.{IsAlarmText}
+use Rattle.ck_cli.specs.Texts.{accepted_text}
 use Rattle.ck_cli.specs.Walking.{walk}
 
-abbrev pub answered_by : Place → Option (List Call × Call × Kind) → ℕ → List ℕ → Type 0
-answered_by main None status text = (status ≡ 0) × (text ≡ accepted_text)
-answered_by main (Some found) status text = (status ≡ 1) × (text ≡ rejected_text main found.0 found.1 found.2)
+abbrev pub answered_by : List ℕ → ℕ → Option (List Call × Call × Kind) → ℕ → List ℕ → Type 0
+answered_by bytes main None status text = (status ≡ 0) × (text ≡ accepted_text)
+answered_by bytes main (Some found) status text = (status ≡ 1) × IsAlarmText bytes main found.0 found.1 found.2 text
 
-abbrev pub IsWalked : Place → List Call → ℕ → List ℕ → Type 0
-IsWalked main calls status text = answered_by main (walk TI [] calls) status text
+abbrev pub IsWalked : List ℕ → ℕ → List Call → ℕ → List ℕ → Type 0
+IsWalked bytes main calls status text = answered_by bytes main (walk TI [] calls) status text

@@ -1,264 +1,113 @@
-//! The file form, read from its tokens.
-ghost use Rattle.std.specs.Prelude.{◌≡◌, IfOk};
-ghost use Rattle.std.specs.Option.{option_map};
-ghost use Rattle.ck_cli.specs.Reader.{
-  declared_by,
-  each_declared,
-  is_end as ends,
-  none_declared,
-  read_form,
-  read_opening,
-  read_prototype,
-  read_prototypes,
-  read_statement,
-  read_statements,
-};
+//! The file form, read from the tokens.
+ghost use Rattle.std.specs.Prelude.{◌≡◌, ◌≤◌, length, All, IfOk};
+ghost use Rattle.ck_cli.specs.Reading.{IsReading};
 
 use crate::calls::KernelCall;
-use crate::lexemes::Lexeme;
-use crate::places::Place;
-use crate::tokens::Token;
-use ck_base::OutOfMemory;
+use crate::declared::Declared;
+use crate::lexemes::{Lexeme, lexeme_for};
+use crate::position::{Position, Role};
+use crate::source::text_of;
+use ck_base::{OutOfMemory, Token};
 use std::alloc::Global;
 
-/// A call that `main` makes, and its place.
+/// A call that `main` makes, and the offset at which it begins.
 #[derive(Clone, Copy)]
 pub struct Call {
     pub call: KernelCall,
-    pub place: Place,
+    pub start: u32,
 }
 
-/// A file of the form: where its `main` stands, and the calls that it makes.
+/// A file of the form: the offset at which its name `main` begins, and the calls that it makes.
 #[derive(Drop)]
 pub struct Form {
-    pub main: Place,
+    pub main: u32,
     pub calls: Vec<Call>,
 }
 
-/// Which calls have a prototype.
-#[derive(Clone, Copy)]
-pub struct Declared {
-    pub init: bool,
-    pub disable: bool,
-    pub suspend: bool,
-    pub enable: bool,
-    pub lock: bool,
-    pub unlock: bool,
+/// What the tokens of a file are.
+#[derive(Drop)]
+pub enum Reading {
+    /// A file of the form.
+    Form(Form),
+    /// None: no file of the form goes on after the token at this offset, or none ends with the file.
+    Stray(u32),
 }
 
-impl Declared {
-    ghost use Rattle.std.specs.Prelude.{◌≡◌};
-    ghost use Rattle.ck_cli.specs.Reader.{declared_with, is_declared, none_declared};
+/// What is read of a file so far.
+#[derive(Drop)]
+struct Reader {
+    position: Position,
+    declared: Declared,
+    main: u32,
+    calls: Vec<Call>,
+}
 
-    /// None of them.
-    fn none() -> Declared
-        ensures { result ≡ none_declared }
+impl Reader {
+    ghost use Rattle.std.specs.Prelude.{Some, None, if◌then◌else◌};
+    ghost use Rattle.ck_cli.specs.Reading.{IsEnded, after, beginning};
+    ghost use Rattle.ck_cli.specs.Readers.{progress};
+
+    /// Nothing.
+    fn new(alloc: Global) -> Reader
+        ensures { progress result ≡ beginning }
     {
-        Declared {
-            init: false,
-            disable: false,
-            suspend: false,
-            enable: false,
-            lock: false,
-            unlock: false,
+        Reader {
+            position: Position::Outside,
+            declared: Declared::none(),
+            main: 0,
+            calls: Vec::new(alloc),
         }
     }
 
-    /// These and one more.
-    fn with(mut self, call: KernelCall) -> Declared
-        ensures { result ≡ declared_with self call }
+    /// Reads a token that begins at an offset. Whether a file of the form can go on after it.
+    fn take(&mut self, lexeme: Lexeme, start: u32) -> Result<bool, OutOfMemory>
+        ensures { IfOk result (λ went_on. (if went_on then Some (progress self.new) else None) ≡ after (progress self.old) lexeme start) }
     {
-        match call {
-            KernelCall::Init => self.init = true,
-            KernelCall::Disable => self.disable = true,
-            KernelCall::Suspend => self.suspend = true,
-            KernelCall::Enable => self.enable = true,
-            KernelCall::Lock => self.lock = true,
-            KernelCall::Unlock => self.unlock = true,
+        let Some(next) = self.position.next(lexeme) else {
+            return Ok(false);
+        };
+        match self.position.role(lexeme) {
+            Role::Prototype(call) => self.declared = self.declared.with(call),
+            Role::Main => self.main = start,
+            Role::Call(call) => {
+                if !self.declared.has(call) {
+                    return Ok(false);
+                }
+                self.calls.push(Call { call, start })?;
+            }
+            Role::Other => {}
         }
-        self
+        self.position = next;
+        Ok(true)
     }
 
-    /// Whether the call is one of them.
-    fn has(&self, call: KernelCall) -> bool
-        ensures { result ≡ is_declared self.now call }
+    /// What was read, where the file ends at an offset.
+    fn end(self, offset: u32) -> Reading
+        ensures { IsEnded (progress self) offset result }
     {
-        match call {
-            KernelCall::Init => self.init,
-            KernelCall::Disable => self.disable,
-            KernelCall::Suspend => self.suspend,
-            KernelCall::Enable => self.enable,
-            KernelCall::Lock => self.lock,
-            KernelCall::Unlock => self.unlock,
+        if matches!(self.position, Position::End) {
+            Reading::Form(Form {
+                main: self.main,
+                calls: self.calls,
+            })
+        } else {
+            Reading::Stray(offset)
         }
     }
 }
 
-/// The prototype at the front, and what follows it.
-fn prototype(tokens: &[Token]) -> Option<(KernelCall, &[Token])>
-    ensures { option_map (λ r. (r.0, r.1.now)) result ≡ read_prototype tokens.now }
+/// What these tokens of a file are.
+pub fn read(alloc: Global, bytes: &[u8], tokens: &[Token]) -> Result<Reading, OutOfMemory>
+    requires short { length bytes.now ≤ 1048576 }
+    requires within { All (λ t. (t.span.start ≤ t.span.end) × (t.span.end ≤ length bytes.now)) tokens.now }
+    ensures { IfOk result (IsReading bytes.now tokens.now) }
 {
-    match tokens {
-        [
-            Token {
-                lexeme: Lexeme::Void,
-                ..
-            },
-            Token {
-                lexeme: Lexeme::Kernel(call),
-                ..
-            },
-            Token {
-                lexeme: Lexeme::Open,
-                ..
-            },
-            Token {
-                lexeme: Lexeme::Void,
-                ..
-            },
-            Token {
-                lexeme: Lexeme::Close,
-                ..
-            },
-            Token {
-                lexeme: Lexeme::Semicolon,
-                ..
-            },
-            rest @ ..,
-        ] => Some((*call, rest)),
-        _ => None,
+    let mut reader = Reader::new(alloc);
+    for token in tokens {
+        let lexeme = lexeme_for(text_of(bytes, token));
+        if !reader.take(lexeme, token.span.start)? {
+            return Ok(Reading::Stray(token.span.start));
+        }
     }
-}
-
-/// Where `main` stands, whose opening is at the front, and what follows it.
-fn opening(tokens: &[Token]) -> Option<(Place, &[Token])>
-    ensures { option_map (λ r. (r.0, r.1.now)) result ≡ read_opening tokens.now }
-{
-    match tokens {
-        [
-            Token {
-                lexeme: Lexeme::Int,
-                ..
-            },
-            Token {
-                lexeme: Lexeme::Main,
-                place,
-            },
-            Token {
-                lexeme: Lexeme::Open,
-                ..
-            },
-            Token {
-                lexeme: Lexeme::Void,
-                ..
-            },
-            Token {
-                lexeme: Lexeme::Close,
-                ..
-            },
-            Token {
-                lexeme: Lexeme::LeftBrace,
-                ..
-            },
-            rest @ ..,
-        ] => Some((*place, rest)),
-        _ => None,
-    }
-}
-
-/// The call at the front, and what follows it.
-fn statement(tokens: &[Token]) -> Option<(Call, &[Token])>
-    ensures { option_map (λ r. (r.0, r.1.now)) result ≡ read_statement tokens.now }
-{
-    match tokens {
-        [
-            Token {
-                lexeme: Lexeme::Kernel(call),
-                place,
-            },
-            Token {
-                lexeme: Lexeme::Open,
-                ..
-            },
-            Token {
-                lexeme: Lexeme::Close,
-                ..
-            },
-            Token {
-                lexeme: Lexeme::Semicolon,
-                ..
-            },
-            rest @ ..,
-        ] => Some((
-            Call {
-                call: *call,
-                place: *place,
-            },
-            rest,
-        )),
-        _ => None,
-    }
-}
-
-/// Whether just the brace that closes `main` is left.
-fn is_end(tokens: &[Token]) -> bool
-    ensures { result ≡ ends tokens.now }
-{
-    matches!(
-        tokens,
-        [Token {
-            lexeme: Lexeme::RightBrace,
-            ..
-        }]
-    )
-}
-
-/// Which calls the prototypes at the front declare, and what follows them.
-fn prototypes(tokens: &[Token]) -> (Declared, &[Token])
-    ensures declared { result.0 ≡ declared_by none_declared (read_prototypes tokens.now).0 }
-    ensures rest { result.1.now ≡ (read_prototypes tokens.now).1 }
-{
-    let mut declared = Declared::none();
-    let mut rest = tokens;
-    'prototypes: while let Some((call, after)) = prototype(rest) {
-        declared = declared.with(call);
-        rest = after;
-    }
-    (declared, rest)
-}
-
-/// The calls at the front, and what follows them.
-fn statements(alloc: Global, tokens: &[Token]) -> Result<(Vec<Call>, &[Token]), OutOfMemory>
-    ensures { IfOk result (λ read. (read.0.items, read.1.now) ≡ read_statements tokens.now) }
-{
-    let mut calls = Vec::new(alloc);
-    let mut rest = tokens;
-    'statements: while let Some((call, after)) = statement(rest) {
-        calls.push(call)?;
-        rest = after;
-    }
-    Ok((calls, rest))
-}
-
-/// Whether each of the calls is declared.
-fn all_declared(declared: &Declared, calls: &[Call]) -> bool
-    ensures { result ≡ each_declared declared.now calls.now }
-{
-    calls.iter().all(|made| declared.has(made.call))
-}
-
-/// The file of these tokens, where they are of the form.
-pub fn form_of(alloc: Global, tokens: &[Token]) -> Result<Option<Form>, OutOfMemory>
-    ensures { IfOk result (λ form. option_map (λ f. (f.main, f.calls.items)) form ≡ read_form tokens.now) }
-{
-    let (declared, rest) = prototypes(tokens);
-    let Some((main, rest)) = opening(rest) else {
-        return Ok(None);
-    };
-    let (calls, rest) = statements(alloc, rest)?;
-    if is_end(rest) && all_declared(&declared, &calls) {
-        Ok(Some(Form { main, calls }))
-    } else {
-        Ok(None)
-    }
+    Ok(reader.end(bytes.len() as u32))
 }

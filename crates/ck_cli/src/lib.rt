@@ -2,9 +2,10 @@
 //!
 //! In: the words of the command line, a folder, a sink. Out: the exit status, with the report written.
 //! The definitions that rule it are `specs/Door.antt` (which files are looked at, and what they are
-//! answered), `specs/FileForm.antt` and `specs/Tokens.antt` (what a file spells), `specs/Walk.antt`
-//! (which call alarms), `specs/Kernel.antt` (the kernel's own counters), `specs/Texts.antt` and
-//! `specs/Statuses.antt`.
+//! answered), `specs/Verdict.antt` (what bytes are answered), `specs/FileForm.antt` (what tokens
+//! spell), `specs/Stray.antt` (where a file stops being of the form), `specs/Walk.antt` (which call
+//! alarms), `specs/Kernel.antt` (the kernel's own counters), `specs/Placed.antt`, `specs/Texts.antt`
+//! and `specs/Statuses.antt`. Tokens, their faults and places are those of ck_lexer.
 //!
 //! It must not know: the real file system and the real standard output.
 #![tactic(auto)]
@@ -15,14 +16,15 @@ ghost use Rattle.ck_cli.specs.Door.{IsCheck, IsOnlyAnswer, IsSilent, KernelIsQui
 
 mod answers;
 mod calls;
+mod declared;
 mod form;
 mod laws;
 mod lexemes;
-mod places;
+mod position;
 mod project;
+mod source;
 mod statuses;
 mod texts;
-mod tokens;
 mod walk;
 
 use crate::answers::answer_of;
@@ -85,7 +87,7 @@ pub fn rtcheck<F: Folder, K: Sink>(
         return code(Status::Usage);
     }
     match answer_of(alloc, folder) {
-        Ok(answer) => match write_all(sink, answer.text.as_bytes()) {
+        Ok(answer) => match write_all(sink, &answer.text) {
             Ok(()) => code(answer.status),
             Err(Failed) => code(Status::WriteFault),
         },

@@ -10,7 +10,7 @@ use ck_io::{Folder, NamesError, ReadError, read_all};
 use std::alloc::Global;
 
 /// The name of the file that is checked.
-const MAIN: &str = "main.i";
+pub(crate) const MAIN: &str = "main.i";
 
 /// The greatest number of bytes of a file.
 const MOST_BYTES: u32 = 1_048_576;

@@ -1,98 +1,139 @@
 //! The texts of the report.
-ghost use Rattle.std.specs.Prelude.{◌≡◌, ◌++◌, string_bytes, IfOk, OnOk};
-ghost use Rattle.std.specs.List.{flat_map};
+ghost use Rattle.std.specs.Prelude.{◌≡◌, ◌≤◌, ◌++◌, length, IfOk, OnOk};
+ghost use Rattle.ck_lexer.specs.PlaceMaps.{place_of};
+ghost use Rattle.ck_cli.specs.Placed.{IsAlarmText, IsRefusalText};
+ghost use Rattle.ck_cli.specs.Sources.{AreWithin, HasPlaces};
+ghost use Rattle.ck_cli.specs.Written.{IsActWritten, AreActsWritten};
 ghost use Rattle.ck_cli.specs.Texts.{
   accepted_text,
-  act_line,
   alarm_line,
   at_place,
   entry_lines,
   kind_text,
   line,
-  rejected_text,
+  place_text,
   unsupported_text,
 };
 
-use crate::calls::name;
+use crate::calls::{KernelCall, name};
 use crate::form::Call;
-use crate::places::Place;
+use crate::source::Source;
 use crate::walk::FirstAlarm;
 use ck_base::{Kind, OutOfMemory, Unsupported, number, words};
+use ck_lexer::PlaceName;
 use std::alloc::Global;
 
 /// Adds a line.
-fn push_line(text: &mut String, words: &str) -> Result<(), OutOfMemory>
-    ensures { OnOk result (string_bytes text.new ≡ string_bytes text.old ++ line words.now) }
+fn push_line(text: &mut Vec<u8>, words: &str) -> Result<(), OutOfMemory>
+    ensures { OnOk result (text.new.items ≡ text.old.items ++ line words.now) }
 {
-    text.push_str(words)?;
-    text.push('\n')?;
+    text.extend_from_slice(words.as_bytes())?;
+    text.push(b'\n')?;
     Ok(())
 }
 
-/// Adds a place of `main.i` and a name, and ends the line.
-fn push_place(text: &mut String, place: Place, name: &str) -> Result<(), OutOfMemory>
-    ensures { OnOk result (string_bytes text.new ≡ string_bytes text.old ++ at_place place name.now) }
+/// Adds a place.
+fn push_place(alloc: Global, text: &mut Vec<u8>, place: PlaceName<'_>) -> Result<(), OutOfMemory>
+    ensures { OnOk result (text.new.items ≡ text.old.items ++ place_text (place_of place.entry)) }
 {
     let line = place.line;
     let column = place.column;
-    write!(text, " main.i:{line}:{column} ")?;
+    let numbers = format!(in alloc; ":{line}:{column}")?;
+    text.extend_from_slice(place.name)?;
+    text.extend_from_slice(numbers.as_bytes())?;
+    Ok(())
+}
+
+/// Adds a place and a name, and ends the line.
+fn push_named(
+    alloc: Global,
+    text: &mut Vec<u8>,
+    place: PlaceName<'_>,
+    name: &str,
+) -> Result<(), OutOfMemory>
+    ensures { OnOk result (text.new.items ≡ text.old.items ++ at_place (place_of place.entry) name.now) }
+{
+    text.push(b' ')?;
+    push_place(alloc, text, place)?;
+    text.push(b' ')?;
     push_line(text, name)
 }
 
 /// Adds the kind of an alarm.
-fn push_kind(text: &mut String, kind: Kind) -> Result<(), OutOfMemory>
-    ensures { OnOk result (string_bytes text.new ≡ string_bytes text.old ++ kind_text kind) }
+fn push_kind(alloc: Global, text: &mut Vec<u8>, kind: Kind) -> Result<(), OutOfMemory>
+    ensures { OnOk result (text.new.items ≡ text.old.items ++ kind_text kind) }
 {
-    match kind {
-        Kind::Sv(number) => write!(text, "SV#{number}")?,
-        Kind::Order => text.push_str("ORDER")?,
-        Kind::P(number) => write!(text, "P#{number}")?,
-    }
+    let words = match kind {
+        Kind::Sv(number) => format!(in alloc; "SV#{number}")?,
+        Kind::Order => String::from_str(alloc, "ORDER")?,
+        Kind::P(number) => format!(in alloc; "P#{number}")?,
+    };
+    text.extend_from_slice(words.as_bytes())?;
     Ok(())
 }
 
 /// Adds the line of a call that was taken.
-fn push_act(text: &mut String, made: Call) -> Result<(), OutOfMemory>
-    ensures { OnOk result (string_bytes text.new ≡ string_bytes text.old ++ act_line made) }
+fn push_act(
+    alloc: Global,
+    text: &mut Vec<u8>,
+    source: &Source<'_>,
+    made: Call,
+) -> Result<(), OutOfMemory>
+    requires places { HasPlaces source.now }
+    requires within { made.start ≤ length source.now.bytes.now }
+    ensures { OnOk result (IsActWritten source.now.bytes.now made text.old.items text.new.items) }
 {
-    text.push_str("  act")?;
-    push_place(text, made.place, name(made.call))
+    text.extend_from_slice("  act".as_bytes())?;
+    push_named(alloc, text, source.place(made.start), name(made.call))
 }
 
 /// Adds a line for each call that was taken.
-fn push_acts(text: &mut String, calls: &[Call]) -> Result<(), OutOfMemory>
-    ensures { OnOk result (string_bytes text.new ≡ string_bytes text.old ++ flat_map act_line calls.now) }
+fn push_acts(
+    alloc: Global,
+    text: &mut Vec<u8>,
+    source: &Source<'_>,
+    calls: &[Call],
+) -> Result<(), OutOfMemory>
+    requires places { HasPlaces source.now }
+    requires within { AreWithin source.now calls.now }
+    ensures { OnOk result (AreActsWritten source.now.bytes.now calls.now text.old.items text.new.items) }
 {
     for made in calls {
-        push_act(text, *made)?;
+        push_act(alloc, text, source, *made)?;
     }
     Ok(())
 }
 
 /// Adds the line of the alarm.
-fn push_alarm(text: &mut String, call: Call, kind: Kind) -> Result<(), OutOfMemory>
-    ensures { OnOk result (string_bytes text.new ≡ string_bytes text.old ++ alarm_line call kind) }
+fn push_alarm(
+    alloc: Global,
+    text: &mut Vec<u8>,
+    place: PlaceName<'_>,
+    call: KernelCall,
+    kind: Kind,
+) -> Result<(), OutOfMemory>
+    ensures { OnOk result (text.new.items ≡ text.old.items ++ alarm_line (record { call = call; place = place_of place.entry }) kind) }
 {
-    text.push_str("alarm 1 ")?;
-    push_kind(text, kind)?;
-    push_place(text, call.place, name(call.call))
+    text.extend_from_slice("alarm 1 ".as_bytes())?;
+    push_kind(alloc, text, kind)?;
+    push_named(alloc, text, place, name(call))
 }
 
 /// Adds the way from the entry into `main`.
-fn push_entry(text: &mut String, main: Place) -> Result<(), OutOfMemory>
-    ensures { OnOk result (string_bytes text.new ≡ string_bytes text.old ++ entry_lines main) }
+fn push_entry(alloc: Global, text: &mut Vec<u8>, main: PlaceName<'_>) -> Result<(), OutOfMemory>
+    ensures { OnOk result (text.new.items ≡ text.old.items ++ entry_lines (place_of main.entry)) }
 {
     push_line(text, "entry main")?;
     push_line(text, "segment 1 [main]")?;
-    text.push_str("  enter")?;
-    push_place(text, main, "main")
+    text.extend_from_slice("  enter".as_bytes())?;
+    push_named(alloc, text, main, "main")
 }
 
 /// The text of an accepted project.
-pub fn accepted(alloc: Global) -> Result<String, OutOfMemory>
-    ensures { IfOk result (λ text. string_bytes text ≡ accepted_text) }
+pub fn accepted(alloc: Global) -> Result<Vec<u8>, OutOfMemory>
+    ensures { IfOk result (λ text. text.items ≡ accepted_text) }
 {
-    let mut text = String::new(alloc);
+    let mut text = Vec::new(alloc);
     push_line(&mut text, "rtcheck 1")?;
     push_line(&mut text, "accepted")?;
     push_line(&mut text, "files 1 functions 1 entries 1")?;
@@ -100,28 +141,62 @@ pub fn accepted(alloc: Global) -> Result<String, OutOfMemory>
 }
 
 /// The text of a refusal. `place` is what stands for its place.
-pub fn unsupported(alloc: Global, kind: Unsupported, place: &str) -> Result<String, OutOfMemory>
-    ensures { IfOk result (λ text. string_bytes text ≡ unsupported_text kind place.now) }
+pub fn unsupported(alloc: Global, kind: Unsupported, place: &[u8]) -> Result<Vec<u8>, OutOfMemory>
+    ensures { IfOk result (λ text. text.items ≡ unsupported_text kind place.now) }
 {
-    let mut text = String::new(alloc);
+    let mut text = Vec::new(alloc);
     let number = number(&kind);
+    let front = format!(in alloc; "unsupported U{number} ")?;
     push_line(&mut text, "rtcheck 1")?;
-    write!(text, "unsupported U{number} {place} ")?;
+    text.extend_from_slice(front.as_bytes())?;
+    text.extend_from_slice(place)?;
+    text.push(b' ')?;
     push_line(&mut text, words(&kind))?;
     Ok(text)
 }
 
-/// The text of a rejected project: its alarm, and the walk to it.
-pub fn rejected(alloc: Global, main: Place, alarm: &FirstAlarm<'_>) -> Result<String, OutOfMemory>
-    ensures { IfOk result (λ text. string_bytes text ≡ rejected_text main alarm.now.before.now alarm.now.call alarm.now.kind) }
+/// The text of a refusal at an offset of `main.i`.
+pub fn unsupported_at(
+    alloc: Global,
+    source: &Source<'_>,
+    kind: Unsupported,
+    offset: u32,
+) -> Result<Vec<u8>, OutOfMemory>
+    requires places { HasPlaces source.now }
+    requires within { offset ≤ length source.now.bytes.now }
+    ensures { IfOk result (λ text. IsRefusalText source.now.bytes.now kind offset text.items) }
 {
-    let mut text = String::new(alloc);
+    let mut place = Vec::new(alloc);
+    push_place(alloc, &mut place, source.place(offset))?;
+    unsupported(alloc, kind, &place)
+}
+
+/// The text of a rejected project: its alarm, and the walk to it. The name `main` begins at an offset.
+pub fn rejected(
+    alloc: Global,
+    source: &Source<'_>,
+    main: u32,
+    alarm: &FirstAlarm<'_>,
+) -> Result<Vec<u8>, OutOfMemory>
+    requires places { HasPlaces source.now }
+    requires entry { main ≤ length source.now.bytes.now }
+    requires acts { AreWithin source.now alarm.now.before.now }
+    requires last { alarm.now.call.start ≤ length source.now.bytes.now }
+    ensures { IfOk result (λ text. IsAlarmText source.now.bytes.now main alarm.now.before.now alarm.now.call alarm.now.kind text.items) }
+{
+    let mut text = Vec::new(alloc);
     push_line(&mut text, "rtcheck 1")?;
     push_line(&mut text, "rejected 1")?;
-    push_alarm(&mut text, alarm.call, alarm.kind)?;
-    push_entry(&mut text, main)?;
+    push_alarm(
+        alloc,
+        &mut text,
+        source.place(alarm.call.start),
+        alarm.call.call,
+        alarm.kind,
+    )?;
+    push_entry(alloc, &mut text, source.place(main))?;
     push_line(&mut text, "segment 2 main")?;
-    push_acts(&mut text, alarm.before)?;
+    push_acts(alloc, &mut text, source, alarm.before)?;
     push_line(&mut text, "  alarm")?;
     Ok(text)
 }

@@ -13,13 +13,20 @@ pub const LOCK_AND_UNLOCK: &str =
 
 pub const ACCEPTED: &str = "rtcheck 1\naccepted\nfiles 1 functions 1 entries 1\n";
 
-const SYNTAX: &str = "rtcheck 1\nunsupported U7 - syntax\n";
-
 const NO_MAIN: &str = "rtcheck 1\nunsupported U23 - main absent or of another type\n";
 
 const TOO_LARGE: &str = "rtcheck 1\nunsupported U25 main.i too large\n";
 
-const FILES: [(&str, u8, &str); 15] = [
+const WITH_COMMENTS: &str =
+    "# 1 \"main.c\"\n/* the kernel */ void chSysInit(void); // once\n#pragma once\n  # 5 \"main.c\" 2\nint main(void) {\n  chSysInit(/**/);\r\n}\n";
+
+const WITH_MARKERS: &str =
+    "# 1 \"kernel.h\"\nvoid chSysInit(void);\nvoid chSysLock(void);\n# 10 \"main.c\"\nint main(void) { /* begins */\n  chSysInit();\n  /* a\n  b */ chSysLock();\n# 3 \"a \u{e9}.c\" 1 3\n\tchSysLock();\n}\n";
+
+const WITH_MARKERS_REPORT: &str =
+    "rtcheck 1\nrejected 1\nalarm 1 SV#4 a \u{e9}.c:3:2 chSysLock\nentry main\nsegment 1 [main]\n  enter main.c:10:5 main\nsegment 2 main\n  act main.c:11:3 chSysInit\n  act main.c:13:8 chSysLock\n  alarm\n";
+
+const FILES: [(&str, u8, &str); 8] = [
     (DOUBLE_LOCK, 1, DOUBLE_LOCK_REPORT),
     (LOCK_AND_UNLOCK, 0, ACCEPTED),
     ("int main(void){}", 0, ACCEPTED),
@@ -28,17 +35,10 @@ const FILES: [(&str, u8, &str); 15] = [
         0,
         ACCEPTED,
     ),
-    ("", 2, SYNTAX),
-    ("int x;", 2, SYNTAX),
-    ("int main(void) {", 2, SYNTAX),
-    ("int main(void) {} ;", 2, SYNTAX),
-    ("int main(void) { chSysInit(); }", 2, SYNTAX),
-    ("void chSysHalt(void); int main(void) {}", 2, SYNTAX),
-    ("voidchSysInit(void); int main(void) {}", 2, SYNTAX),
-    ("int main(void) {} void chSysInit(void);", 2, SYNTAX),
-    ("/* */ int main(void) {}", 2, SYNTAX),
-    ("int main(void) {}\r\n", 2, SYNTAX),
-    ("int main(void) {}\u{e9}", 2, SYNTAX),
+    ("/* */ int main(void) {}", 0, ACCEPTED),
+    ("int main(void) {}\r\n", 0, ACCEPTED),
+    (WITH_COMMENTS, 0, ACCEPTED),
+    (WITH_MARKERS, 1, WITH_MARKERS_REPORT),
 ];
 
 #[test]
@@ -46,6 +46,71 @@ fn files_and_their_reports(rt: HostRuntime) -> Result<(), Fail> {
     for (text, status, report) in FILES {
         let answer = checked_main(rt.alloc(), text.as_bytes())?;
         assert_eq!(rt; answer.0, status, "at {text}");
+        assert_eq!(rt; answer.1.as_slice(), report.as_bytes(), "at {text}");
+    }
+    Ok(())
+}
+
+/// Files that are refused, each with the line that says why and where.
+const REFUSED: [(&str, &str); 17] = [
+    (
+        "# 7 \"main.c\"\nunion u { int a; };\n",
+        "unsupported U5 main.c:7:1 reserved word outside the subset",
+    ),
+    (
+        "int main(void) { return 0; } /* end",
+        "unsupported U2 main.i:1:30 unclosed comment or literal",
+    ),
+    (
+        "int main(void) {}\u{e9}",
+        "unsupported U1 main.i:1:18 bad byte",
+    ),
+    (
+        "int x;\n# 0x3\n",
+        "unsupported U6 main.i:2:1 bad line marker",
+    ),
+    ("", "unsupported U7 main.i:1:1 syntax"),
+    ("int x;", "unsupported U7 main.i:1:5 syntax"),
+    ("# 4 \"x.c\"\nint\nx;\n", "unsupported U7 x.c:5:1 syntax"),
+    ("int main(void) {", "unsupported U7 main.i:1:17 syntax"),
+    ("int main(void) {\n", "unsupported U7 main.i:2:1 syntax"),
+    ("int main(void) {} ;", "unsupported U7 main.i:1:19 syntax"),
+    (
+        "int main(void) { return 0; }",
+        "unsupported U7 main.i:1:18 syntax",
+    ),
+    (
+        "int main(void) { chSysInit(); }",
+        "unsupported U7 main.i:1:18 syntax",
+    ),
+    (
+        "void chSysInit(void); int main(void) { chSysInit() chSysInit(); }",
+        "unsupported U7 main.i:1:52 syntax",
+    ),
+    (
+        "void chSysInit(void), int main(void) {}",
+        "unsupported U7 main.i:1:21 syntax",
+    ),
+    (
+        "void chSysHalt(void); int main(void) {}",
+        "unsupported U7 main.i:1:6 syntax",
+    ),
+    (
+        "voidchSysInit(void); int main(void) {}",
+        "unsupported U7 main.i:1:1 syntax",
+    ),
+    (
+        "int main(void) {} void chSysInit(void);",
+        "unsupported U7 main.i:1:19 syntax",
+    ),
+];
+
+#[test]
+fn files_that_are_refused(rt: HostRuntime) -> Result<(), Fail> {
+    for (text, line) in REFUSED {
+        let answer = checked_main(rt.alloc(), text.as_bytes())?;
+        let report = format!(in rt.alloc(); "rtcheck 1\n{line}\n")?;
+        assert_eq!(rt; answer.0, 2, "at {text}");
         assert_eq!(rt; answer.1.as_slice(), report.as_bytes(), "at {text}");
     }
     Ok(())
@@ -149,7 +214,13 @@ fn folders_and_their_reports(rt: HostRuntime) -> Result<(), Fail> {
 
 #[test]
 fn the_greatest_file(rt: HostRuntime) -> Result<(), Fail> {
-    let rows = [(1_048_576, SYNTAX), (1_048_577, TOO_LARGE)];
+    let rows = [
+        (
+            1_048_576,
+            "rtcheck 1\nunsupported U7 main.i:1:1048577 syntax\n",
+        ),
+        (1_048_577, TOO_LARGE),
+    ];
     for (length, report) in rows {
         let bytes = vec![in rt.alloc(); b' '; length]?;
         let answer = checked_main(rt.alloc(), &bytes)?;

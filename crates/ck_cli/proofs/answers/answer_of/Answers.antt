@@ -1,4 +1,4 @@
-use Rattle.std.proofs.Common.{◌≡◌, string_bytes, subst}
+use Rattle.std.proofs.Common.{◌≡◌, subst}
 use Rattle.std.proofs.lemmas.Result.{IfOk-weaker}
 use Rattle.std.specs.Prelude.{codes}
 use Rattle.ck_base.specs.declared.refusals.Unsupported.TheVariants.{U23, U25}
@@ -14,18 +14,18 @@ pub returns-in-Missing-clause-answers : goal.returns-in-Missing-clause-answers
 returns-in-Missing-clause-answers g c =
     let told = g.F.Folder.told c.args.folder.now in
     let found = subst (IsFound told) c.in-Missing.is c.in_ok-main_file.ensures.found in
-    IfOk-weaker c.refused.result (λ a. (status_code a.status ≡ 2) × (string_bytes a.text ≡ unsupported_text U23 (codes "-"))) (λ a. Answers told (status_code a.status) (string_bytes a.text))
-    (λ a is. Answers-missing told (status_code a.status) (string_bytes a.text) found is.0 is.1) c.refused.ensures.refused
+    IfOk-weaker c.refused.result (λ a. (status_code a.status ≡ 2) × (a.text.items ≡ unsupported_text U23 (codes "-"))) (λ a. Answers told (status_code a.status) a.text.items)
+    (λ a is. Answers-missing told (status_code a.status) a.text.items found is.0 is.1) c.refused.ensures.refused
 
 pub returns-in-TooLarge-clause-answers : goal.returns-in-TooLarge-clause-answers
 returns-in-TooLarge-clause-answers g c =
     let told = g.F.Folder.told c.args.folder.now in
     let found = subst (IsFound told) c.in-TooLarge.is c.in_ok-main_file.ensures.found in
-    IfOk-weaker c.refused-in-TooLarge.result (λ a. (status_code a.status ≡ 2) × (string_bytes a.text ≡ unsupported_text U25 main_name)) (λ a. Answers told (status_code a.status) (string_bytes a.text))
-    (λ a is. Answers-too_large told (status_code a.status) (string_bytes a.text) found is.0 is.1) c.refused-in-TooLarge.ensures.refused
+    IfOk-weaker c.refused-in-TooLarge.result (λ a. (status_code a.status ≡ 2) × (a.text.items ≡ unsupported_text U25 main_name)) (λ a. Answers told (status_code a.status) a.text.items)
+    (λ a is. Answers-too_large told (status_code a.status) a.text.items found is.0 is.1) c.refused-in-TooLarge.ensures.refused
 
 pub returns-in-Ok-clause-answers : goal.returns-in-Ok-clause-answers
 returns-in-Ok-clause-answers g c =
     let told = g.F.Folder.told c.args.folder.now in
     let found = subst (IsFound told) c.in-Read.is c.in_ok-main_file.ensures.found in
-    Answers-read told c.in-Read.bytes.items (status_code c.in-Ok.answer.status) (string_bytes c.in-Ok.answer.text) found (subst (λ b. IsVerdict b (status_code c.in-Ok.answer.status) (string_bytes c.in-Ok.answer.text)) c.deref.ensures.value c.in-Ok.ensures)
+    Answers-read told c.in-Read.bytes.items (status_code c.in-Ok.answer.status) c.in-Ok.answer.text.items found (subst (λ b. IsVerdict b (status_code c.in-Ok.answer.status) c.in-Ok.answer.text.items) c.deref.ensures.value c.in-Ok.ensures)

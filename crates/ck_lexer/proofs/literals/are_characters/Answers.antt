@@ -1,0 +1,14 @@
+use Rattle.std.proofs.Common.{◌≡◌, ◌-◌, length, take, drop, arith, ap, sym, ◌∙◌}
+use Rattle.std.proofs.lemmas.List.{take_rest, length-drop}
+use Rattle.ck_lexer.proofs.Characters.{characters-more}
+use Rattle.ck_lexer.proofs.literals.are_characters.Goals as goal
+
+pub loop-at-preserved : goal.loop-at-preserved
+loop-at-preserved c =
+    let text = c.args.text.now in
+    let at = c.loop-at.at in
+    let rest : take (length text - at) (drop at text) ≡ drop at text = take_rest text at in
+    record {
+      within = omega (arith, c.in-Some.ensures.within, ap length rest, length-drop at text);
+      so_far = characters-more text (take (length text - at) (drop at text)) at c.in-Some.size rest (sym c.in-Some.ensures.size) c.in-Some.ensures.some c.in-Some.ensures.within ∙ c.loop-at.invariant.so_far;
+    }

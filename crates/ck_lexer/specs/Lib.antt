@@ -1,0 +1,13 @@
+pub mod Bytes
+pub mod Constants
+pub mod Cuts
+pub mod Keywords
+pub mod Laws
+pub mod Mapping
+pub mod Markers
+pub mod Pieces
+pub mod PlaceMaps
+pub mod Places
+pub mod Preprocessing
+pub mod Scanning
+pub mod Tokens

@@ -1,0 +1,101 @@
+-- How the code goes over the bytes, from the front. Private contracts alone speak of it; proofs/ join it with the definitions.
+use Rattle.std.specs.Prelude.{ℕ, suc, ◌+◌, ◌-◌, Bool, ◌||◌, ◌&&◌, ◌==◌, nat_le, List, [], ◌∷◌, take, drop, codes, slice_index, Option, Some, None, if◌then◌else◌}
+use Rattle.std.specs.List.{list_any, prefix_len}
+use Rattle.std.specs.Option.{option_map}
+use Rattle.ck_lexer.specs.Bytes.{backslash, double_quote, quote, is_blank, is_digit, is_line_feed}
+use Rattle.ck_lexer.specs.Constants.{value_of}
+use Rattle.ck_lexer.specs.Markers.{are_flags, hash}
+use Rattle.ck_lexer.specs.Pieces.{character_piece, string_piece}
+use Rattle.ck_lexer.specs.Preprocessing.{goes_on}
+use Rattle.ck_lexer.specs.declared.pieces.Piece.{Piece}
+use Rattle.ck_lexer.specs.declared.markers.Marked.{Marked}
+use Rattle.ck_lexer.specs.declared.literals.Step.{Step}
+use Rattle.ck_lexer.specs.declared.literals.Step.TheVariants.{On, Closed, Broken}
+
+-- how many bytes of a number follow a byte of it
+abbrev pub run_after : ℕ → List ℕ → ℕ
+run_after last [] = 0
+run_after last (b ∷ text) = if goes_on last b then suc (run_after b text) else 0
+
+abbrev pub moved_by : ℕ → Option ℕ → Option ℕ
+moved_by k found = option_map (λ n. n + k) found
+
+-- how many bytes of a literal follow its first quote, up to the quote that closes it
+abbrev pub closing : ℕ → List ℕ → Option ℕ
+closing mark [] = None
+closing mark (b ∷ []) = if b == mark then Some 1 else None
+closing mark (b ∷ c ∷ text) =
+    if b == backslash then (if is_line_feed c then None else option_map (λ n. n + 2) (closing mark text))
+    else (if b == mark then Some 1
+    else (if is_line_feed b then None
+    else option_map (λ n. n + 1) (closing mark (c ∷ text))))
+
+-- how many bytes the longest punctuator at the front takes
+abbrev pub is_one_of : List ℕ → ℕ → Bool
+is_one_of bytes b = list_any (λ x. b == x) bytes
+
+abbrev pub is_shift_assignment : ℕ → ℕ → ℕ → Bool
+is_shift_assignment a b c = is_one_of (codes "<>") a && b == a && c == 61
+
+abbrev pub is_ellipsis : ℕ → ℕ → ℕ → Bool
+is_ellipsis a b c = a == 46 && b == 46 && c == 46
+
+abbrev pub is_pair : ℕ → ℕ → Bool
+is_pair a b =
+    (b == 61 && is_one_of (codes "<>=!*/%+-&^|") a) || (b == a && is_one_of (codes "+-<>&|") a) || (a == 45 && b == 62)
+
+abbrev pub is_single : ℕ → Bool
+is_single a = is_one_of (codes "[](){}.&*+-~!/%<>^|?:;=,") a
+
+abbrev pub mark_size : List ℕ → ℕ
+mark_size rest =
+    if is_shift_assignment (slice_index rest 0) (slice_index rest 1) (slice_index rest 2) || is_ellipsis (slice_index rest 0) (slice_index rest 1) (slice_index rest 2) then 3
+    else (if is_pair (slice_index rest 0) (slice_index rest 1) then 2
+    else (if is_single (slice_index rest 0) then 1
+    else 0))
+
+-- one step of it
+abbrev pub literal_step : ℕ → List ℕ → Step
+literal_step mark [] = Broken
+literal_step mark (b ∷ []) = if b == mark then Closed else Broken
+literal_step mark (b ∷ c ∷ text) =
+    if b == backslash then (if is_line_feed c then Broken else On 2)
+    else (if b == mark then Closed
+    else (if is_line_feed b then Broken
+    else On 1))
+
+-- what is left behind the blanks at the front
+abbrev pub after_blanks : List ℕ → List ℕ
+after_blanks text = drop (prefix_len is_blank text) text
+
+-- A line marker, read step by step, each step over what is left of the line: its flags, its name behind the quote, the
+-- quote, its digits, and the whole line from its `#`.
+abbrev pub marker_flags : ℕ → List ℕ → List ℕ → Option (ℕ × List ℕ)
+marker_flags number name text = if are_flags text then Some (number, name) else None
+
+abbrev pub marker_end : ℕ → List ℕ → Option ℕ → Option (ℕ × List ℕ)
+marker_end number text None = None
+marker_end number text (Some n) = marker_flags number (take (n - 1) text) (drop n text)
+
+abbrev pub marker_name : ℕ → List ℕ → Option (ℕ × List ℕ)
+marker_name number [] = None
+marker_name number (b ∷ text) = if b == double_quote then marker_end number text (closing double_quote text) else None
+
+abbrev pub marker_digits : ℕ → List ℕ → Option (ℕ × List ℕ)
+marker_digits n text =
+    if nat_le 1 n && nat_le n 9 then marker_name (value_of 10 (take n text)) (after_blanks (drop n text)) else None
+
+abbrev pub marker_number : List ℕ → Option (ℕ × List ℕ)
+marker_number text = marker_digits (prefix_len is_digit text) text
+
+abbrev pub marker_of : List ℕ → Option (ℕ × List ℕ)
+marker_of [] = None
+marker_of (b ∷ text) = if b == hash then marker_number (after_blanks text) else None
+
+-- what the code has of a marker
+abbrev pub marked_parts : Marked → ℕ × List ℕ
+marked_parts m = (m.number, m.name.now)
+
+-- a literal with both its quotes, by the first
+abbrev pub literal_piece : List ℕ → Piece
+literal_piece text = if slice_index text 0 == quote then character_piece text else string_piece text

@@ -1,0 +1,186 @@
+//! Character constants and string literals.
+ghost use Rattle.std.specs.Prelude.{◌≡◌, ◌+◌, ◌<◌, ◌≤◌, length, drop, slice_index, IfSome};
+ghost use Rattle.ck_lexer.specs.Constants.{
+  are_characters as characters,
+  between_quotes as inside,
+  character_size as size_of_character,
+  escape_size as size_of_escape,
+  hexadecimal_escape,
+  if_byte,
+  is_character_constant as character_constant,
+  is_simple_escape as simple_escape,
+  is_string_literal as string_literal,
+  number_of,
+  octal_size,
+  value_of as value_of_digits,
+};
+ghost use Rattle.ck_lexer.specs.Scanning.{closing, literal_step, moved_by};
+
+use crate::bytes::is_octal_digit;
+use crate::numbers::{Base, digits_length, value_of};
+
+/// What stands behind a byte of a literal.
+#[derive(Clone, Copy)]
+pub enum Step {
+    /// The literal goes on behind so many bytes.
+    On(usize),
+    /// The closing quote.
+    Closed,
+    /// The line's end or the file's.
+    Broken,
+}
+
+/// What stands at the front of the rest of a literal that began with this quote.
+fn next_step(quote: u8, rest: &[u8]) -> Step
+    ensures { result ≡ literal_step quote rest.now }
+{
+    match rest {
+        [b'\\', b'\n', ..] => Step::Broken,
+        [b'\\', _, ..] => Step::On(2),
+        [byte, ..] if *byte == quote => Step::Closed,
+        [] | [_] | [b'\n', ..] => Step::Broken,
+        [_, ..] => Step::On(1),
+    }
+}
+
+/// How many bytes follow a literal's first quote, up to the same quote that closes it on its line,
+/// whatever the literal's characters are.
+pub(crate) fn closing_length(quote: u8, text: &[u8]) -> Option<usize>
+    ensures found { result ≡ closing quote text.now }
+    ensures within { IfSome result (λ size. (0 < size) × (size ≤ length text.now)) }
+{
+    let mut length = 0;
+    while length < text.len() {
+        match next_step(quote, &text[length..]) {
+            Step::On(size) => length += size,
+            Step::Closed => return Some(length + 1),
+            Step::Broken => return None,
+        }
+    }
+    None
+}
+
+/// Whether a simple escape is this byte behind its backslash.
+fn is_simple_escape(byte: u8) -> bool
+    ensures { result ≡ simple_escape byte }
+{
+    matches!(
+        byte,
+        b'\'' | b'"' | b'?' | b'\\' | b'a' | b'b' | b'f' | b'n' | b'r' | b't' | b'v'
+    )
+}
+
+/// The size of an escape whose digits have a value up to 255.
+fn size_if_byte(base: Base, digits: &[u8], size: usize) -> Option<usize>
+    ensures { result ≡ if_byte (value_of_digits (number_of base) digits.now) size }
+{
+    match value_of(base, digits) {
+        Some(0..=255) => Some(size),
+        _ => None,
+    }
+}
+
+/// How many digits an octal escape has.
+fn octal_length(text: &[u8]) -> usize
+    ensures size { result ≡ octal_size text.now }
+    ensures within { result ≤ length text.now }
+{
+    digits_length(Base::Octal, text).min(3)
+}
+
+/// The size of a hexadecimal escape, with its `x`, by what follows that.
+fn hexadecimal_size(text: &[u8]) -> Option<usize>
+    ensures size { result ≡ hexadecimal_escape text.now }
+    ensures within { IfSome result (λ size. size ≤ length text.now + 1) }
+{
+    let length = digits_length(Base::Hexadecimal, text);
+    if length == 0 {
+        return None;
+    }
+    size_if_byte(Base::Hexadecimal, &text[..length], length + 1)
+}
+
+/// How many bytes an escape takes behind its backslash, where it has a value up to 255.
+fn escape_size(text: &[u8]) -> Option<usize>
+    ensures size { result ≡ size_of_escape text.now }
+    ensures within { IfSome result (λ size. size ≤ length text.now) }
+{
+    match text {
+        [byte, ..] if is_simple_escape(*byte) => Some(1),
+        [byte, ..] if is_octal_digit(*byte) => {
+            let length = octal_length(text);
+            size_if_byte(Base::Octal, &text[..length], length)
+        }
+        [b'x', digits @ ..] => hexadecimal_size(digits),
+        _ => None,
+    }
+}
+
+/// How many bytes the character at the front takes, where it is one.
+fn character_size(text: &[u8]) -> Option<usize>
+    requires { 0 < length text.now }
+    ensures size { result ≡ size_of_character text.now }
+    ensures some { IfSome result (λ size. 0 < size) }
+    ensures within { IfSome result (λ size. size ≤ length text.now) }
+{
+    match text {
+        [b'\\', escape @ ..] => match escape_size(escape) {
+            Some(size) => Some(size + 1),
+            None => None,
+        },
+        _ => Some(1),
+    }
+}
+
+/// Whether these bytes are characters, one behind another.
+fn are_characters(text: &[u8]) -> bool
+    ensures { result ≡ characters text.now }
+{
+    let mut at = 0;
+    while at < text.len() {
+        match character_size(&text[at..]) {
+            Some(size) => at += size,
+            None => return false,
+        }
+    }
+    true
+}
+
+/// What stands between a literal's quotes.
+fn between_quotes(text: &[u8]) -> &[u8]
+    ensures { result.now ≡ inside text.now }
+{
+    match text {
+        [_, inside @ .., _] => inside,
+        _ => &[],
+    }
+}
+
+/// Whether a character constant holds one byte, or one escape of a value up to 255.
+#[tactic(auto, unfolding(crate::specs::Constants::is_character_constant))]
+pub(crate) fn is_character_constant(text: &[u8]) -> bool
+    ensures { result ≡ character_constant text.now }
+{
+    let inside = between_quotes(text);
+    !inside.is_empty() && character_size(inside) == Some(inside.len())
+}
+
+/// Whether a string literal holds bytes and escapes of values up to 255 alone.
+#[tactic(auto, unfolding(crate::specs::Constants::is_string_literal))]
+pub(crate) fn is_string_literal(text: &[u8]) -> bool
+    ensures { result ≡ string_literal text.now }
+{
+    are_characters(between_quotes(text))
+}
+
+/// How many bytes the literal takes whose first quote stands at the front, where it is closed on its
+/// line.
+pub(crate) fn literal_length(rest: &[u8]) -> Option<usize>
+    requires { 0 < length rest.now }
+    ensures { result ≡ moved_by 1 (closing (slice_index rest.now 0) (drop 1 rest.now)) }
+{
+    match closing_length(rest[0], &rest[1..]) {
+        Some(size) => Some(size + 1),
+        None => None,
+    }
+}

@@ -1,0 +1,176 @@
+//! Names, lines and columns of a file's bytes (docs/TOKENS.md, "Places").
+ghost use Rattle.std.specs.Prelude.{◌≡◌, ◌≤◌, ◌++◌, ◌∷◌, ℕ, [], List, length, slice_index_or, IfOk, OnOk, MatchOption};
+ghost use Rattle.std.specs.List.Sorted.{IsNonDecreasingBy};
+ghost use Rattle.ck_lexer.specs.Mapping.{GoesOn, IsLastBefore, IsMarked, IsNumbered, IsUnmarked};
+ghost use Rattle.ck_lexer.specs.PlaceMaps.{HasStart, IsPlaceMapOf, names_of, place_of, start_of};
+ghost use Rattle.ck_lexer.specs.Places.{IsPlace};
+
+use crate::markers::{Marked, marker};
+use crate::pieces::{is_clear, piece_at};
+use ck_base::OutOfMemory;
+use std::alloc::Global;
+
+/// Where a byte stands: the name and the line that the last line marker before it gives, or the
+/// file's own, and the column. Lines and columns count from 1; the name is as it stands in the marker.
+#[derive(Clone, Copy)]
+pub struct PlaceName<'a> {
+    pub name: &'a [u8],
+    pub line: u32,
+    pub column: u32,
+}
+
+/// A line of a file: where it starts, its number, and its name's index.
+#[derive(Clone, Copy)]
+struct Line {
+    start: u32,
+    number: u32,
+    name: usize,
+}
+
+/// The file's first line, as long as no marker comes.
+const FIRST: Line = Line {
+    start: 0,
+    number: 1,
+    name: 0,
+};
+
+/// The places of a file's bytes: its lines in order, and the names that hold on them.
+#[derive(Drop)]
+pub struct PlaceMap {
+    names: Vec<Vec<u8>>,
+    lines: Vec<Line>,
+}
+
+/// Adds a line at the end.
+fn push_line(lines: &mut Vec<Line>, line: Line) -> Result<(), OutOfMemory>
+    ensures { OnOk result (lines.new.items ≡ lines.old.items ++ line ∷ []) }
+{
+    lines.push(line)?;
+    Ok(())
+}
+
+/// Adds a copy of a name at the end.
+fn push_name(alloc: Global, names: &mut Vec<Vec<u8>>, name: &[u8]) -> Result<(), OutOfMemory>
+    ensures { OnOk result (names_of names.new.items ≡ names_of names.old.items ++ name.now ∷ []) }
+{
+    names.push(Vec::from_slice(alloc, name)?)?;
+    Ok(())
+}
+
+/// What the marker gives that takes the bytes from `at` to `end`, where its line feed stands behind it.
+fn marked_line(bytes: &[u8], at: usize, end: usize) -> Option<Marked<'_>>
+    requires rises { at ≤ end }
+    requires within { end ≤ length bytes.now }
+    ensures { MatchOption result (IsUnmarked bytes.now at end) (IsMarked bytes.now at end) }
+{
+    let marked = marker(&bytes[at..end])?;
+    if end < bytes.len() && is_clear(&bytes[..at]) {
+        Some(marked)
+    } else {
+        None
+    }
+}
+
+/// Adds a line for each line feed from `at` up to `end`, which follows the line `on`, and gives the
+/// last.
+fn push_lines(
+    lines: &mut Vec<Line>,
+    on: Line,
+    bytes: &[u8],
+    at: usize,
+    end: usize,
+) -> Result<Line, OutOfMemory>
+    requires small { length bytes.now ≤ 1048576 }
+    requires rises { at ≤ end }
+    requires within { end ≤ length bytes.now }
+    requires begun { on.start ≤ at }
+    requires numbered { IsNumbered on }
+    ensures numbered { IfOk result IsNumbered }
+    ensures lines { IfOk result (λ next. GoesOn bytes.now lines.old.items on at lines.new.items next end) }
+{
+    let mut line = on;
+    for feed in at..end {
+        if bytes[feed] == b'\n' {
+            line = Line {
+                start: (feed + 1) as u32,
+                number: line.number + 1,
+                name: line.name,
+            };
+            push_line(lines, line)?;
+        }
+    }
+    Ok(line)
+}
+
+/// The places of a file's bytes, of which there are at most 1,048,576, in time that grows with them
+/// (docs/TOKENS.md, "Places").
+///
+/// `name` is the file's own name, which holds until a line marker comes. Faults are passed over like
+/// any piece of the file. Nothing is refused, but for want of memory.
+pub fn place_map(alloc: Global, name: &str, bytes: &[u8]) -> Result<PlaceMap, OutOfMemory>
+    requires { length bytes.now ≤ 1048576 }
+    ensures { IfOk result (IsPlaceMapOf name.now bytes.now) }
+{
+    let mut names = Vec::new(alloc);
+    push_name(alloc, &mut names, name.as_bytes())?;
+    let mut lines = Vec::new(alloc);
+    push_line(&mut lines, FIRST)?;
+    let mut on = FIRST;
+    let mut at = 0;
+    while at < bytes.len() {
+        let end = at + piece_at(bytes, at).size;
+        match marked_line(bytes, at, end) {
+            Some(marked) => {
+                on = Line {
+                    start: (end + 1) as u32,
+                    number: marked.number,
+                    name: names.len(),
+                };
+                push_name(alloc, &mut names, marked.name)?;
+                push_line(&mut lines, on)?;
+                at = end + 1;
+            }
+            None => {
+                on = push_lines(&mut lines, on, bytes, at, end)?;
+                at = end;
+            }
+        }
+    }
+    Ok(PlaceMap { names, lines })
+}
+
+/// The last line that starts at an offset or before it.
+fn last_before(lines: &[Line], offset: u32) -> Line
+    ensures { IsNonDecreasingBy start_of lines.now → HasStart lines.now 0 → IsLastBefore lines.now offset result }
+{
+    let count = lines.partition_point(|line| line.start <= offset);
+    match lines.get(count.saturating_sub(1)) {
+        Some(line) => *line,
+        None => FIRST,
+    }
+}
+
+/// The name at an index, or none.
+fn name_at(names: &[Vec<u8>], index: usize) -> &[u8]
+    ensures { result.now ≡ slice_index_or (names_of names.now) index [] }
+{
+    match names.get(index) {
+        Some(name) => name.as_slice(),
+        None => &[],
+    }
+}
+
+/// The name, line and column of the byte at an offset, or of the file's end, by a binary search among
+/// the file's lines (docs/TOKENS.md, "Places").
+///
+/// An offset behind the file's end has the place that its last line would give it.
+pub fn place(map: &PlaceMap, offset: u32) -> PlaceName<'_>
+    ensures { (name bytes : List ℕ) → IsPlaceMapOf name bytes map.now → offset ≤ length bytes → IsPlace name bytes offset (place_of result) }
+{
+    let line = last_before(&map.lines, offset);
+    PlaceName {
+        name: name_at(&map.names, line.name),
+        line: line.number,
+        column: offset.saturating_sub(line.start).saturating_add(1),
+    }
+}
