@@ -1,0 +1,5 @@
+pub mod Members
+pub mod PairLemmas
+pub mod MaskLemmas
+pub mod UnionLemmas
+pub mod ImageLemmas
