@@ -3,3 +3,4 @@ pub mod PairLemmas
 pub mod MaskLemmas
 pub mod UnionLemmas
 pub mod ImageLemmas
+pub mod SinglePairs

@@ -8,7 +8,9 @@
 #![tactic(auto)]
 
 mod laws;
+mod pairs;
 mod rows;
 
 pub use laws::pairs_are_bits;
+pub use pairs::{add_pair, has_pair, no_pairs};
 pub use rows::{Rows, compose, image, union_into};

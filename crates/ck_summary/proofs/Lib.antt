@@ -1,0 +1,9 @@
+pub mod Graphs
+pub mod Soundness
+pub mod Completeness
+pub mod StateCodes
+pub mod Additions
+pub mod PointLemmas
+pub mod StateLemmas
+pub mod TableLemmas
+pub mod Solutions

@@ -1,0 +1,3 @@
+pub mod Solution
+pub mod Derived
+pub mod Growth
