@@ -23,7 +23,6 @@ ghost use Rattle.ck_graph.specs.Faults.{
   IsNoPointOf,
   FitsKind,
   IsSound,
-  IsSmall,
   IsPointSound,
   IsFunctionSound,
 };
@@ -47,7 +46,9 @@ pub struct Bad {
 /// point or exit that is a point of another function; a point of kind `Exit` that isn't its
 /// function's named exit, or a named exit of another kind. It takes no memory.
 pub fn checked(parts: Parts) -> Result<Graph, Bad>
-    requires { IsSmall (flow_of parts) }
+    requires points { vec_len parts.points < 2 ^ 32 }
+    requires functions { vec_len parts.functions < 2 ^ 32 }
+    requires edges { All (λ part. vec_len part.edges < 2 ^ 32) parts.points.items }
     ensures graph { IfOk result (λ graph. graph ≡ flow_of parts) }
     ensures sound { IfOk result (λ graph. HasFault (flow_of parts) → ⊥) }
     ensures given_back { IfErr result (λ bad. bad.parts ≡ parts) }
@@ -62,7 +63,6 @@ pub fn checked(parts: Parts) -> Result<Graph, Bad>
 
 /// Whether no point has a fault.
 fn points_are_sound(parts: &Parts) -> bool
-    requires { IsSmall (flow_of parts.now) }
     ensures { let flow = flow_of parts.now in
         MatchBool result ((n : ℕ) → n < point_count flow → IsPointSound flow n (point_at flow n)) (HasFault flow) }
 {
@@ -171,7 +171,7 @@ fn is_named_exit(parts: &Parts, number: usize, point: &PointPart) -> bool
 
 /// Whether no function has a fault.
 fn functions_are_sound(parts: &Parts) -> bool
-    requires { IsSmall (flow_of parts.now) }
+    requires { vec_len parts.now.functions < 2 ^ 32 }
     ensures { let flow = flow_of parts.now in
         MatchBool result ((n : ℕ) → n < function_count flow → IsFunctionSound flow n) (HasFault flow) }
 {

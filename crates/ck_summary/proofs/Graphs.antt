@@ -13,7 +13,7 @@ use Rattle.ck_graph.specs.Faults.{IsSound, IsPointOf}
 use Rattle.ck_graph.specs.Walk.{names_target}
 use Rattle.ck_summary.specs.Derived.{kind_at, exit_of, HasEdge, MayEnter}
 
-point_at_past : (flow : Flow) (p : ℕ) → point_count flow ≤ p → point_at flow p ≡ no_point
+pub point_at_past : (flow : Flow) (p : ℕ) → point_count flow ≤ p → point_at flow p ≡ no_point
 unfolding point_at
 point_at_past flow p past = get_or_past flow.points p no_point past
 

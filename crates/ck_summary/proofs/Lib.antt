@@ -7,3 +7,6 @@ pub mod PointLemmas
 pub mod StateLemmas
 pub mod TableLemmas
 pub mod Solutions
+pub mod AlarmLemmas
+pub mod OrderLemmas
+pub mod AlarmSets

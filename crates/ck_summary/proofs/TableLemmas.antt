@@ -22,10 +22,10 @@ use Rattle.ck_summary.proofs.StateLemmas.{IsOneMore}
 no_bit : (m j : ℕ) → m ≡ 0 → bit_at m j ≡ 1 → ⊥
 no_bit m j zero bit = let none : bit_at m j ≡ 0 = ap (λ n. bit_at n j) zero ∙ bit_at-zero j in omega (arith, none, bit)
 
-no_rows-none : (a b : ℕ) → Relates no_rows a b → ⊥
+pub no_rows-none : (a b : ℕ) → Relates no_rows a b → ⊥
 no_rows-none a b r = no_bit 0 b refl r.bit
 
-rows_at_past : (table : List Rows) (p : ℕ) → length table ≤ p → rows_at table p ≡ no_rows
+pub rows_at_past : (table : List Rows) (p : ℕ) → length table ≤ p → rows_at table p ≡ no_rows
 unfolding rows_at
 rows_at_past table p past = get_or_past table p no_rows past
 

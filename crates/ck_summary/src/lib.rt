@@ -9,9 +9,11 @@
 #![tactic(auto)]
 
 mod passing;
+mod reached;
 mod solving;
 mod states;
 mod table;
 
+pub use reached::{AlarmAt, alarms};
 pub use solving::solve;
 pub use table::Table;

@@ -7,8 +7,14 @@
 #[cfg(test)]
 mod faults;
 #[cfg(test)]
+mod faults_of_graphs;
+#[cfg(test)]
+mod graphs;
+#[cfg(test)]
 mod project;
 #[cfg(test)]
 mod reports;
+#[cfg(test)]
+mod summaries;
 #[cfg(test)]
 mod surface;
