@@ -54,7 +54,9 @@ abbrev pub names_target : List FnId → ℕ → Bool
 names_target [] target = false
 names_target (f ∷ targets) target = if f.0 == target then true else names_target targets target
 
--- the configuration after a move, at a point of a kind
+-- the configuration after a move, at a point of a kind: at a plain point any edge is taken; at an act its edge, where the
+-- op is allowed, into the state that the table gives; at a call one of its targets is entered; at an exit the caller below
+-- goes on; and no other move is possible
 abbrev pub moved_at : Flow → PointKind → Configuration → Move → Option Configuration
 moved_at flow Plain c (TakeEdge k) = option_map (along c c.state) (slice_get (point_at flow c.top.point).edges k)
 moved_at flow (Act op name) c (TakeEdge zero) = option_and_then (λ next. option_map (along c next) (slice_get (point_at flow c.top.point).edges 0)) (next_state (act op c.state))

@@ -11,6 +11,10 @@ Pair = ℕ × ℕ
 abbrev pub pair : ℕ → ℕ → Pair
 pair i j = (i, j)
 
+-- the relation of sixteen masks
+abbrev pub rows_of : List ℕ → Rows
+rows_of masks = record { mask = masks }
+
 -- the numbers 0 to 15
 unfoldable pub sixteen : List ℕ
 sixteen = range_with_len 0 16

@@ -15,6 +15,7 @@ ghost use Rattle.std.specs.Prelude.{
 ghost use Rattle.std.specs.Int.{bit_at};
 ghost use Rattle.ck_rows.specs.Relation.{
   pairs,
+  rows_of,
   composition,
   HaveSamePairs,
   HasNewPair,
@@ -66,9 +67,9 @@ pub fn compose(first: &Rows, second: &Rows) -> Rows
 /// The composition of a relation with the one whose masks are `step`: each thing that it leads to is
 /// followed by what `step` has for it.
 pub fn image(rows: &Rows, step: &[u16; 16]) -> Rows
-    ensures pairs { HaveSamePairs (pairs result) (composition (pairs rows.now) (pairs (record { mask = step.now }))) }
-    ensures composed { (i j k : ℕ) → Relates rows.now i j → Relates (record { mask = step.now }) j k → Relates result i k }
-    ensures only { (i k : ℕ) → Relates result i k → (j : ℕ) × Relates rows.now i j × Relates (record { mask = step.now }) j k }
+    ensures pairs { HaveSamePairs (pairs result) (composition (pairs rows.now) (pairs (rows_of step.now))) }
+    ensures composed { (i j k : ℕ) → Relates rows.now i j → Relates (rows_of step.now) j k → Relates result i k }
+    ensures only { (i k : ℕ) → Relates result i k → (j : ℕ) × Relates rows.now i j × Relates (rows_of step.now) j k }
 {
     let mut mask = [0u16; 16];
     'masks: for i in 0..16 {
