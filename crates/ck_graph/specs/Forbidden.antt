@@ -80,3 +80,7 @@ alarm_cmp flow a b =
 pub record AreAlarms (flow : Flow) (roots : List Root) (alarms : List PointAlarm) : Type 0 where
   pub ordered : AllPairs (λ a b. alarm_cmp flow a b ≡ Less) alarms
   pub exactly : (alarm : PointAlarm) → Contains alarms alarm ↔ ReachesAlarm flow roots alarm
+
+-- no graph and roots have two lists of alarms
+abbrev pub HaveOneAlarmList : Type 0
+HaveOneAlarmList = (flow : Flow) (roots : List Root) (xs ys : List PointAlarm) → AreAlarms flow roots xs → AreAlarms flow roots ys → xs ≡ ys

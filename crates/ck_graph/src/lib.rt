@@ -13,9 +13,11 @@
 mod checking;
 mod entries;
 mod graphs;
+mod laws;
 mod points;
 
 pub use checking::{Bad, checked};
 pub use entries::{Entry, Root, Roots};
 pub use graphs::Graph;
+pub use laws::one_list_of_alarms;
 pub use points::{ActName, Edge, FunctionPart, Label, Parts, PointKind, PointPart};
