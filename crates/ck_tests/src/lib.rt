@@ -8,6 +8,10 @@
 #[cfg(test)]
 mod faults;
 #[cfg(test)]
+mod faults_of_graphs;
+#[cfg(test)]
+mod graphs;
+#[cfg(test)]
 mod kernel;
 #[cfg(test)]
 mod lexer;
@@ -15,5 +19,7 @@ mod lexer;
 mod project;
 #[cfg(test)]
 mod reports;
+#[cfg(test)]
+mod summaries;
 #[cfg(test)]
 mod surface;

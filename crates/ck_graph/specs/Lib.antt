@@ -1,0 +1,4 @@
+pub mod Flow
+pub mod Faults
+pub mod Walk
+pub mod Forbidden

@@ -1,0 +1,5 @@
+use Rattle.ck_rows.proofs.PairLemmas.{pairs-bits}
+use Rattle.ck_rows.proofs.laws.pairs_are_bits.Goals as goal
+
+pub returns : goal.returns
+returns c = pairs-bits

@@ -1,0 +1,12 @@
+pub mod Graphs
+pub mod Soundness
+pub mod Completeness
+pub mod StateCodes
+pub mod Additions
+pub mod PointLemmas
+pub mod StateLemmas
+pub mod TableLemmas
+pub mod Solutions
+pub mod AlarmLemmas
+pub mod OrderLemmas
+pub mod AlarmSets

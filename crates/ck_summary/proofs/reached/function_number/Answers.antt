@@ -1,0 +1,6 @@
+use Rattle.std.proofs.Common.{sym, ap, arith}
+use Rattle.ck_summary.proofs.Graphs.{point_at_past}
+use Rattle.ck_summary.proofs.reached.function_number.Goals as goal
+
+pub returns-else-point-points : goal.returns-else-point-points
+returns-else-point-points c = sym (ap (λ p. p.function.0) (point_at_past c.args.graph.now c.args.point.0 (omega arith)))

@@ -1,0 +1,4 @@
+pub mod Solution
+pub mod Derived
+pub mod Growth
+pub mod Alarms
