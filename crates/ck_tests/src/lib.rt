@@ -1,7 +1,7 @@
 //! The tests of all crates, as tables, over public calls alone: the worked rows of the report, what fails
-//! at each call, and each public call once with ample memory.
+//! at each call, settings files, and each public call once with ample memory.
 //!
-//! Expected values come from docs/STATES.md and docs/REPORT.md, worked out by hand.
+//! Expected values come from docs/STATES.md, docs/REPORT.md and docs/SETTINGS.md, worked out by hand.
 #![tactic(auto)]
 
 #[cfg(test)]
@@ -10,5 +10,9 @@ mod faults;
 mod project;
 #[cfg(test)]
 mod reports;
+#[cfg(test)]
+mod settings;
+#[cfg(test)]
+mod settings_faults;
 #[cfg(test)]
 mod surface;
