@@ -1,8 +1,9 @@
 //! The tests of all crates, as tables, over public calls alone: the worked rows of the report, what fails
-//! at each call, and each public call once with ample memory.
+//! at each call, texts and their tokens, graphs, settings files, and each public call once with ample
+//! memory.
 //!
-//! Expected values come from docs/STATES.md, docs/KERNEL.md, docs/TOKENS.md and docs/REPORT.md, worked out
-//! by hand.
+//! Expected values come from docs/STATES.md, docs/KERNEL.md, docs/TOKENS.md, docs/SETTINGS.md and
+//! docs/REPORT.md, worked out by hand.
 #![tactic(auto)]
 
 #[cfg(test)]
@@ -19,6 +20,10 @@ mod lexer;
 mod project;
 #[cfg(test)]
 mod reports;
+#[cfg(test)]
+mod settings;
+#[cfg(test)]
+mod settings_faults;
 #[cfg(test)]
 mod summaries;
 #[cfg(test)]

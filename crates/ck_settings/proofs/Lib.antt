@@ -1,0 +1,7 @@
+pub mod Elements
+pub mod UnknownKeys
+pub mod Repeated
+pub mod Loops
+pub mod Joined
+pub mod Toml
+pub mod Worked

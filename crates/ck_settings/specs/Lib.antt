@@ -1,0 +1,7 @@
+pub mod Keys
+pub mod Classes
+pub mod Values
+pub mod Faults
+pub mod Documents
+pub mod Places
+pub mod Reading

@@ -1,0 +1,25 @@
+//! Reads the settings of a project, the file `rtcheck.toml`.
+//!
+//! In: the bytes of the file. Out: its settings with the defaults filled in, or its first fault and
+//! the key where it is. The definitions that rule it are `specs/Keys.antt` (the table of keys, in the
+//! order of their faults), `specs/Classes.antt` (the classes of outside functions), `specs/Faults.antt`
+//! (all faults of a document in order), `specs/Values.antt` (the values that it writes) and
+//! `specs/Documents.antt` (what a file says). Which text is which document is `toml`'s own definition.
+//! docs/SETTINGS.md has all of it in plain words.
+//!
+//! It must not know: the program, the folder, and what the names in the settings name.
+#![tactic(auto)]
+
+mod classes;
+mod document;
+mod errors;
+mod keys;
+mod lists;
+mod read;
+mod section;
+mod settings;
+
+pub use ck_base::{SettingsFault, SettingsKind};
+pub use errors::ReadSettingsError;
+pub use read::read_settings;
+pub use settings::{CallbackSetting, FunctionSetting, Settings, VectorSetting};
