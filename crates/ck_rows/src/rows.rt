@@ -37,7 +37,7 @@ pub fn union_into(into: &mut Rows, from: &Rows) -> bool
     ensures kept { (i j : ℕ) → Relates into.old i j → Relates into.new i j }
     ensures added { (i j : ℕ) → Relates from.now i j → Relates into.new i j }
     ensures only { (i j : ℕ) → Relates into.new i j → Relates into.old i j ⊎ Relates from.now i j }
-    ensures full { result ≡ false → into.new ≡ into.old }
+    ensures unchanged { result ≡ false → into.new ≡ into.old }
     ensures room { room into.new ≤ room into.old }
     ensures less_room { result ≡ true → room into.new < room into.old }
 {

@@ -176,15 +176,15 @@ call-parts flow sound p target entries through edges f x old mid new g h may fir
   back = subst (λ es. IsAddition (LeadsTo es (length es)) through mid new h) edges_are back;
 }
 
-pub or-yes : (g h : Bool) → g ≡ true → (h || g) ≡ g
-or-yes true true e = refl
-or-yes true false e = refl
-or-yes false h e = absurd (cc)
+or-false : (h g : Bool) → (h || g) ≡ false → (h ≡ false) × (g ≡ false)
+or-false true g e = absurd (cc)
+or-false false g e = (refl, e)
 
-pub or-no : (g h : Bool) → g ≡ false → (h || g) ≡ h
-or-no false true e = refl
-or-no false false e = refl
-or-no true h e = absurd (cc)
+-- neither step added anything
+pub quiet-parts : (flow : Flow) (p target : ℕ) (old mid new : List Rows) (g h : Bool) → (h || g) ≡ false → CallParts flow p target old mid new g h → CallParts flow p target old mid new false false
+quiet-parts flow p target old mid new g h quiet c =
+    let both = or-false h g quiet in
+    subst (λ b. CallParts flow p target old mid new b false) both.1 (subst (CallParts flow p target old mid new g) both.0 c)
 
 -- a call point is closed where it is at each target
 pub closed-calls : (flow : Flow) (table : List Rows) (p call : ℕ) → kind_at flow p ≡ Call call → ((target : ℕ) → MayEnter flow p target → IsClosedAtCall flow table p target) → IsClosedAt flow table p
@@ -236,10 +236,6 @@ pub record CallsSoFar (flow : Flow) (p : ℕ) (targets : List FnId) (old new : L
 
 pub CallsSoFar-start : (flow : Flow) (p : ℕ) (targets : List FnId) (table : List Rows) → CallsSoFar flow p targets table table false 0
 CallsSoFar-start flow p targets table = record { growth = IsGrowth-none flow table; closed = λ e k target below. omega arith }
-
-or-false : (h g : Bool) → (h || g) ≡ false → (h ≡ false) × (g ≡ false)
-or-false true g e = absurd (cc)
-or-false false g e = (refl, e)
 
 pub CallsSoFar-more : (flow : Flow) (p : ℕ) (targets : List FnId) (old mid new : List Rows) (g h : Bool) (n : ℕ) (target : FnId) → slice_get targets n ≡ Some target → CallsSoFar flow p targets old mid g n → IsGrowth flow mid new h → (h ≡ false → IsClosedAtCall flow new p target.0) → CallsSoFar flow p targets old new (h || g) (n + 1)
 CallsSoFar-more flow p targets old mid new g h n target there before growth closed = record {

@@ -13,9 +13,9 @@ use Rattle.ck_rows.specs.Relation.{Relates}
 use Rattle.ck_graph.specs.declared.entries.Root.{Root}
 use Rattle.ck_graph.specs.Flow.{Flow, point_count, function_count}
 use Rattle.ck_graph.specs.Faults.{IsSound}
-use Rattle.ck_summary.specs.Solution.{rows_at, no_rows}
+use Rattle.ck_summary.specs.Solution.{rows_at, no_rows, HasNoPairs}
 use Rattle.ck_summary.specs.Derived.{first_of, Derived, at_root, AllDerived, HasRoots}
-use Rattle.ck_summary.specs.Growth.{HasNoPairs, Keeps}
+use Rattle.ck_summary.specs.Growth.{Keeps}
 use Rattle.ck_summary.proofs.Additions.{rows_at-set_same, rows_at-set_other}
 use Rattle.ck_summary.proofs.StateLemmas.{IsOneMore}
 

@@ -62,7 +62,3 @@ pub record AreEntries (rows entries : Rows) : Type 0 where
 pub record IsStep (op : Op) (step : Rows) : Type 0 where
   pub leads : (state next : State) → act op state ≡ Next next → Relates step (state_code state) (state_code next)
   pub only : (a b : ℕ) → Relates step a b → (state : State) × (next : State) × (state_code state ≡ a) × (state_code next ≡ b) × (act op state ≡ Next next)
-
--- the table has no pair
-abbrev pub HasNoPairs : List Rows → Type 0
-HasNoPairs table = (point a b : ℕ) → Relates (rows_at table point) a b → ⊥

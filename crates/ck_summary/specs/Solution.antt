@@ -16,6 +16,10 @@ no_rows = record { mask = [] }
 unfoldable pub rows_at : List Rows → ℕ → Rows
 rows_at table point = slice_index_or table point no_rows
 
+-- the table has no pair
+abbrev pub HasNoPairs : List Rows → Type 0
+HasNoPairs table = (point a b : ℕ) → Relates (rows_at table point) a b → ⊥
+
 -- a walk from a root reaches this point in the state `to`, in a call that was entered in the state `from`
 pub record ReachesPair (flow : Flow) (roots : List Root) (point : ℕ) (from to : State) : Type 0 where
   pub configuration : Configuration

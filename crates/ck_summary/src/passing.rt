@@ -86,5 +86,5 @@ fn pass_call(graph: &Graph, table: &mut [Rows], point: PointId, target: FnId) ->
     let entered = add_at(table, graph.first(target).0 as usize, &entries_of(&here));
     let through = compose(&here, &table[graph.exit(target).0 as usize]);
     let returned = spread(table, graph.edges(point), &through);
-    entered || returned
+    returned | entered
 }

@@ -2,9 +2,9 @@
 ghost use Rattle.std.specs.Prelude.{◌≡◌, ◌<◌, ℕ, length, false, All};
 ghost use Rattle.ck_graph.specs.Flow.{point_count, function_count};
 ghost use Rattle.ck_graph.specs.Faults.{IsSound};
-ghost use Rattle.ck_summary.specs.Solution.{IsSolution};
+ghost use Rattle.ck_summary.specs.Solution.{HasNoPairs, IsSolution};
 ghost use Rattle.ck_summary.specs.Derived.{AllDerived, HasRoots, IsClosedAt};
-ghost use Rattle.ck_summary.specs.Growth.{IsGrowth, HasNoPairs};
+ghost use Rattle.ck_summary.specs.Growth.{IsGrowth};
 
 use crate::passing::pass_on;
 use crate::states::code;

@@ -1,8 +1,7 @@
 //! The table of summaries.
 ghost use Rattle.std.specs.Prelude.{◌≡◌, ◌<◌, length, IfOk};
 ghost use Rattle.ck_graph.specs.Flow.{point_count};
-ghost use Rattle.ck_summary.specs.Solution.{rows_at};
-ghost use Rattle.ck_summary.specs.Growth.{HasNoPairs};
+ghost use Rattle.ck_summary.specs.Solution.{rows_at, HasNoPairs};
 
 use ck_base::{OutOfMemory, PointId};
 use ck_graph::Graph;

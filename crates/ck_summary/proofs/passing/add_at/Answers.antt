@@ -8,7 +8,7 @@ returns c = IsAddition-at c.args.table.now c.args.point c.args.given.now c.union
   kept = c.union_into.ensures.kept;
   added = c.union_into.ensures.added;
   only = c.union_into.ensures.only;
-  same = c.union_into.ensures.full;
+  same = c.union_into.ensures.unchanged;
   room_left = c.union_into.ensures.room;
   less_left = c.union_into.ensures.less_room;
 })
