@@ -99,7 +99,7 @@ wakes_is key class None h = op_there key (op_of class false) h
 wakes_is key class (Some d) h = wakes_typed key class (as_bool d)
 
 -- what a text is that has no fault
-passed_test : (key : List ℕ) (b : Bool) → at_most_one key (if b then None else Some OutOfRange) ≡ [] → b ≡ true
+pub passed_test : (key : List ℕ) (b : Bool) → at_most_one key (if b then None else Some OutOfRange) ≡ [] → b ≡ true
 passed_test key true h = refl
 passed_test key false h = absurd cc
 
@@ -107,7 +107,7 @@ passed_typed : (key : List ℕ) (fine : List ℕ → Bool) (o : Option (List ℕ
 passed_typed key fine None h = absurd cc
 passed_typed key fine (Some s) h = passed_test key (fine s) h
 
-passed : (key : List ℕ) (fine : List ℕ → Bool) (o : Option Data) → at_most_one key (option_map_or (λ d. judged (as_str d) fine) o (Some Missing)) ≡ [] → fine (option_map_or text_in o []) ≡ true
+pub passed : (key : List ℕ) (fine : List ℕ → Bool) (o : Option Data) → at_most_one key (option_map_or (λ d. judged (as_str d) fine) o (Some Missing)) ≡ [] → fine (option_map_or text_in o []) ≡ true
 passed key fine None h = absurd cc
 passed key fine (Some d) h = passed_typed key fine (as_str d) h
 
@@ -130,16 +130,16 @@ list_any_same : {A : Type 0} (p q : A → Bool) (xs : List A) → ((x : A) → p
 list_any_same p q [] h = refl
 list_any_same p q (x ∷ xs) h = rw (h x, list_any_same p q xs h) refl
 
-and_true : (b : Bool) → b ≡ (b && true)
+pub and_true : (b : Bool) → b ≡ (b && true)
 and_true true = refl
 and_true false = refl
 
-two_and_true : (a b : Bool) → (a && b) ≡ (a && (b && true))
+pub two_and_true : (a b : Bool) → (a && b) ≡ (a && (b && true))
 two_and_true a true = refl
 two_and_true a false = refl
 
 -- the test on what was read before is the test on the elements before
-repeats : {X : Type 0} (test : X → Bool) (value : Data → X) (same : List (List ℕ)) (before : List Data) (ms : Members)
+pub repeats : {X : Type 0} (test : X → Bool) (value : Data → X) (same : List (List ℕ)) (before : List Data) (ms : Members)
     → ((e : Data) → test (value e) ≡ says_the_same same ms e) → list_any test (map value before) ≡ list_any (says_the_same same ms) before
 repeats test value same before ms h = list_any_map test value before ∙ list_any_same (λ e. test (value e)) (says_the_same same ms) before h
 

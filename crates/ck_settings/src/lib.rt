@@ -4,8 +4,8 @@
 //! the key where it is. The definitions that rule it are `specs/Keys.antt` (the table of keys, in the
 //! order of their faults), `specs/Classes.antt` (the classes of outside functions), `specs/Faults.antt`
 //! (all faults of a document in order), `specs/Values.antt` (the values that it writes) and
-//! `specs/Documents.antt` (what a file says). Which text is which document is `toml`'s own definition.
-//! docs/SETTINGS.md has all of it in plain words.
+//! `specs/Documents.antt` (what a file says); `specs/Valid.antt` says what callers may rely on. Which
+//! text is which document is `toml`'s own definition. docs/SETTINGS.md has it all in plain words.
 //!
 //! It must not know: the program, the folder, and what the names in the settings name.
 #![tactic(auto)]

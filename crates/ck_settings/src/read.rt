@@ -1,7 +1,9 @@
 //! The settings that the bytes of a file write, or the first fault.
+ghost use Rattle.std.specs.Prelude.{IfOk};
 ghost use Rattle.toml.specs.View.{table_view};
 ghost use Rattle.ck_settings.specs.Values.{settings_view};
 ghost use Rattle.ck_settings.specs.Documents.{Gives, IsFault, not_toml, settings_of};
+ghost use Rattle.ck_settings.specs.Valid.{AreValid};
 ghost use Rattle.ck_settings.specs.Reading.{file, toml};
 
 use crate::document::settings_in;
@@ -54,8 +56,12 @@ fn settings_of_file(alloc: Global, bytes: &[u8]) -> Result<Settings, ReadSetting
 /// Where they are TOML and the document has no fault, the answer is its settings, with the defaults
 /// for keys that are left out. Else it is the first fault, with its key: NotToml, or of the document
 /// Missing, Unknown, WrongType, OutOfRange or Repeated. `Memory` says that memory ran out.
+///
+/// The settings are valid: version 1, a timer priority from the kernel's priority on, at most 240
+/// vectors and callbacks together, and no element of a list that repeats one before it.
 pub fn read_settings(alloc: Global, bytes: &[u8]) -> Result<Settings, ReadSettingsError>
-    ensures { Gives settings_view result (settings_of bytes.now) }
+    ensures reads { Gives settings_view result (settings_of bytes.now) }
+    ensures valid { IfOk result (λ s. AreValid (settings_view s)) }
 {
     settings_of_file(alloc, bytes)
 }

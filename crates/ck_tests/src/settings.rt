@@ -116,6 +116,31 @@ fn lists_in_written_order(rt: HostRuntime) -> Result<(), Fail> {
     Ok(())
 }
 
+/// The settings of examples/gpt-settings.
+const EXAMPLE: &str =
+    "version = 1\nkernel_priority = 2\n[[callback]]\nstruct = \"GPTConfig\"\nmember = \"callback\"\npriority = 6\n[[function]]\nname = \"gptStart\"\nclass = \"normal\"\n[[function]]\nname = \"palToggleLine\"\nclass = \"neutral\"\n";
+
+#[test]
+fn the_example(rt: HostRuntime) -> Result<(), Fail> {
+    let settings = settings_of(rt.alloc(), EXAMPLE)?;
+    assert_eq!(rt; settings.kernel_priority, 2);
+    assert_eq!(rt; settings.timer_priority, 2);
+    assert!(rt; settings.vectors.is_empty());
+    assert_eq!(rt; settings.callbacks.len(), 1);
+    assert_eq!(rt; settings.functions.len(), 2);
+    for callback in &settings.callbacks {
+        assert_eq!(rt; callback.of_struct.as_str(), "GPTConfig");
+        assert_eq!(rt; callback.member.as_str(), "callback");
+        assert_eq!(rt; callback.priority, 6);
+    }
+    let functions = [("gptStart", Op::Normal), ("palToggleLine", Op::Neutral)];
+    for (function, row) in settings.functions.iter().zip(functions) {
+        assert_eq!(rt; function.name.as_str(), row.0);
+        assert!(rt; function.op == row.1);
+    }
+    Ok(())
+}
+
 /// So many vectors and callbacks.
 fn handlers(alloc: Global, vectors: usize, callbacks: usize, rest: &str) -> Result<String, Fail> {
     let mut text = String::from_str(alloc, LEAST)?;

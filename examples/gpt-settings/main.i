@@ -1,0 +1,4 @@
+void chSysInit(void);
+int main(void) {
+  chSysInit();
+}
