@@ -31,7 +31,7 @@ none_at_curly_at : (w : Token → Word) (n : ℕ) (place : Place) (c : Token) (m
 none_at_curly_at w zero place c more h = none_at_curly w (λ r. None) (λ r. None) place c more h
 none_at_curly_at w (suc n) place c more h = none_at_curly w (types.members w (specifiers_at w n InType) (declarator_at w n MemberName)) (λ r. types.enumerators w (expr_at w n 11) (length r) r) place c more h
 
-nests_once : (e : Expr) → nesting e ≤ 0 → ⊥
+pub nests_once : (e : Expr) → nesting e ≤ 0 → ⊥
 nests_once (Name t) h = omega (arith, h)
 nests_once (Constant t) h = omega (arith, h)
 nests_once (Strings t ts) h = omega (arith, h)

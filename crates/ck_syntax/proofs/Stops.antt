@@ -63,3 +63,6 @@ at_comma w c ts j le h = rw h (omega (arith, le))
 
 pub at_operator : (w : Token → Word) (c : Token) (ts : List Token) (j k : ℕ) → j < k → follow (w c) ≡ Operator k → StopsAt w j (c ∷ ts)
 at_operator w c ts j k lt h = rw h lt
+
+pub at_semicolon : (w : Token → Word) (c : Token) (ts : List Token) (j : ℕ) → j ≤ 13 → w c ≡ Fixed (codes ";") → StopsAt w j (c ∷ ts)
+at_semicolon w c ts j le h = rw h (omega (arith, le))

@@ -121,7 +121,7 @@ star_no_params CurlyMark h = refl
 star_no_params CloseMark h = absurd (false≢true h)
 star_no_params Other h = refl
 
-name_ends : (naming : Naming) (word : Word) → may_name naming word ≡ true → ends_specifiers (sort word) ≡ true
+pub name_ends : (naming : Naming) (word : Word) → may_name naming word ≡ true → ends_specifiers (sort word) ≡ true
 name_ends naming Ordinary h = refl
 name_ends naming Typedef h = refl
 name_ends NewName Number h = refl

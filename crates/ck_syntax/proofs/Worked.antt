@@ -1,6 +1,6 @@
 -- Worked texts, computed on the definitions.
-use Rattle.std.proofs.Common.{◌≡◌, ℕ, zero, suc, ◌≤◌, ◌<◌, ap, List, [], ◌∷◌, Option, Some, None, refl, arith}
-use Rattle.std.specs.Prelude.{codes}
+use Rattle.std.proofs.Common.{◌≡◌, ℕ, zero, suc, ◌≤◌, ◌<◌, ap, List, [], ◌∷◌, Some, None, refl, arith}
+use Rattle.std.specs.Prelude.{true, false, codes}
 use Rattle.ck_base.specs.declared.tokens.Token.{Token}
 use Rattle.ck_base.specs.declared.tokens.TokenKind.{TokenKind}
 use Rattle.ck_base.specs.declared.tokens.TokenKind.TheVariants as kinds
@@ -8,13 +8,14 @@ use Rattle.ck_syntax.specs.Reading.{expr_at}
 use Rattle.ck_syntax.specs.Spelling.{Spells, most}
 use Rattle.ck_syntax.specs.Fitting.{Fits}
 use Rattle.ck_syntax.specs.Nesting.{nesting}
+use Rattle.ck_syntax.specs.Parts.{children, holds_call}
 use Rattle.ck_syntax.specs.Written.{written}
 use Rattle.ck_syntax.proofs.AllRead.{one_tree}
-use Rattle.ck_syntax.specs.Trees.{Expr, Name, Constant, Strings, Paren, Suffixed, Prefixed, SizeofType, Cast, Chain, Choice, Assigned, NoOperands, Operand, NoSuffixes, Index, CallEmpty, Call, Access, Step, NoSpecifiers, Word, TypedefName, Tagged, Struct, Enum, NoMembers, Member, NoDeclarators, Also, Abstract, Named, Nested, NoDims, Open, Sized, Function, NoParams, VoidParams, Parameters, NoMore, Ellipsis, More, LastOne, LastValued, One, Valued}
+use Rattle.ck_syntax.specs.Trees.{Expr, Name, Constant, Paren, Suffixed, Prefixed, SizeofType, Cast, Chain, Choice, Assigned, NoOperands, Operand, NoSuffixes, Index, Call, CallEmpty, Access, Step, NoSpecifiers, Word, TypedefName, Struct, Enum, NoMembers, Member, NoDeclarators, Abstract, Named, Nested, NoDims, Function, VoidParams, Parameters, NoMore, Ellipsis, LastValued, One}
 use Rattle.ck_syntax.specs.Words.{Word as Words, Fixed, Number, word_of}
 
 -- a token of a kind, from a byte up to a byte
-abbrev at : TokenKind → ℕ → ℕ → Token
+abbrev pub at : TokenKind → ℕ → ℕ → Token
 at kind start end = record { kind = kind; span = record { file = 0; start = start; end = end } }
 
 -- `a = b = c`: an assignment takes what is right of it
@@ -97,3 +98,14 @@ too_deep o z c bytes typedefs k open_ number close many e h =
     let w = word_of bytes typedefs in
     let same_tree : e ≡ parens o z c k = one_tree w (suc k) e (parens o z c k) h.fits (parens_fit w o z c k open_ number close) (omega (arith, h.nests, many)) (omega (arith, parens_nest o z c k)) h.tokens_are in
     omega (arith, many, h.nests, ap nesting same_tree, parens_nest o z c k)
+
+-- `f(a)[b]`: the called expression, the argument and the index are right inside it, and a call is evaluated
+called : holds_call (word_of (codes "f(a)[b]") []) (Suffixed (Name (at kinds.Word 0 1)) (Call (at kinds.Mark 1 2) (Name (at kinds.Word 2 3)) NoOperands (at kinds.Mark 3 4) (Index (at kinds.Mark 4 5) (Name (at kinds.Word 5 6)) (at kinds.Mark 6 7) NoSuffixes))) ≡ true
+called = refl
+
+inside_call : children (Suffixed (Name (at kinds.Word 0 1)) (Call (at kinds.Mark 1 2) (Name (at kinds.Word 2 3)) NoOperands (at kinds.Mark 3 4) (Index (at kinds.Mark 4 5) (Name (at kinds.Word 5 6)) (at kinds.Mark 6 7) NoSuffixes))) ≡ Name (at kinds.Word 0 1) ∷ Name (at kinds.Word 2 3) ∷ Name (at kinds.Word 5 6) ∷ []
+inside_call = refl
+
+-- `sizeof f()`: no call is evaluated (6.5.3.4)
+not_called : holds_call (word_of (codes "sizeof f()") []) (Prefixed (at kinds.Key 0 6) (Suffixed (Name (at kinds.Word 7 8)) (CallEmpty (at kinds.Mark 8 9) (at kinds.Mark 9 10) NoSuffixes))) ≡ false
+not_called = refl

@@ -1,6 +1,6 @@
 -- What a token begins at the start of a statement (C99 6.8). What begins an operand or specifiers begins no other
 -- statement than an expression or a declaration.
-use Rattle.std.specs.Prelude.{ℕ, Bool, ◌||◌, List, [], ◌∷◌, codes, if◌then◌else◌}
+use Rattle.std.specs.Prelude.{ℕ, ◌||◌, List, [], ◌∷◌, codes, if◌then◌else◌}
 use Rattle.std.specs.Str.{bytes_eq}
 use Rattle.ck_syntax.specs.ReadingExpressions.{begins_lead}
 use Rattle.ck_syntax.specs.Words.{Word, Ordinary, Typedef, Number, String, Fixed, sort_by, begins_specifiers, lead_by, is_one_of}

@@ -1,17 +1,18 @@
 -- How declarations, statements and files are read from a list of tokens (C99 6.7 to 6.9), by how deep they may nest.
-use Rattle.std.specs.Prelude.{◌≡◌, ℕ, zero, suc, Bool, true, false, not, ◌&&◌, ◌||◌, List, [], ◌∷◌, length, Option, Some, None, codes, if◌then◌else◌}
+use Rattle.std.specs.Prelude.{ℕ, ◌-◌, zero, suc, Bool, true, false, not, ◌&&◌, ◌||◌, List, [], ◌∷◌, length, Option, Some, None, codes, if◌then◌else◌}
 use Rattle.ck_base.specs.declared.tokens.Token.{Token}
 use Rattle.ck_syntax.specs.Fitting.{NewName}
 use Rattle.ck_syntax.specs.Phrases.{Phrase, NamePhrase, BlockPhrase, ClosePhrase, EmptyPhrase, IfPhrase, ElsePhrase, SwitchPhrase, WhilePhrase, DoPhrase, ForPhrase, CasePhrase, DefaultPhrase, GotoPhrase, LeavePhrase, ReturnPhrase, OtherPhrase, phrase}
-use Rattle.ck_syntax.specs.Readers.{Read, Reader, then_read, behind, onto, or_else}
+use Rattle.ck_syntax.specs.Readers.{Reader, then_read, behind, onto, or_else}
 use Rattle.ck_syntax.specs.Reading.{expr_at, specifiers_at, declarator_at}
 use Rattle.ck_syntax.specs.ReadingExpressions.{begins_operand}
 use Rattle.ck_syntax.specs.ReadingTypes.{begins_with}
 use Rattle.ck_syntax.specs.Specified.{Place, InBlock, InFile, is_text}
+use Rattle.ck_syntax.specs.Spelling.{most}
 use Rattle.ck_syntax.specs.Statements.{Designators, Init, Inits, Declared, MoreDeclared, Declaration, ForStart, Statement, Items, External, Equals, DotName, AtIndex, Value, Braced, LastInit, NextInit, Plainly, Initialised, NoMoreDeclared, AndPlainly, AndInitialised, Bare, Declares, StartEmpty, StartExpr, StartDeclaration, Block, Empty, Evaluates, If, IfElse, Switch, While, Do, For, Case, Default, Label, Goto, Leave, Return, ReturnValue, NoItems, Declaring, Doing, Outside, Defines}
 use Rattle.ck_syntax.specs.StatementsFitting.{names_behind, is_typedef, shape, Shape, JustName, FunctionShape, OtherShape, external_behind}
 use Rattle.ck_syntax.specs.Trees.{Expr, Specifiers, Declarator}
-use Rattle.ck_syntax.specs.Words.{Word, begins_specifiers, is_identifier, sort, word_of}
+use Rattle.ck_syntax.specs.Words.{Word, begins_specifiers, is_identifier, word_of}
 
 -- this token comes first
 abbrev pub comes : (Token → Word) → List ℕ → List Token → Bool
@@ -187,3 +188,7 @@ file_loop bytes n zero typedefs ts = if is_empty ts then Some [] else None
 file_loop bytes n (suc f) typedefs ts =
     if is_empty ts then Some []
     else then_read (external_at bytes typedefs n ts) (λ x r. then_all x (file_loop bytes n f (external_behind bytes x typedefs) r))
+
+-- the file that the tokens spell, if they spell one: a body counts one, so what stands in it nests one less than the deepest
+abbrev pub file_at : List ℕ → List Token → Option (List External)
+file_at bytes tokens = file_loop bytes (most - 1) (length tokens) [] tokens

@@ -1,5 +1,5 @@
 -- The trees of initialisers, declarations, statements and files, in the manner of `Trees`.
-use Rattle.std.specs.Prelude.{List, Option}
+use Rattle.std.specs.Prelude.{Option}
 use Rattle.ck_base.specs.declared.tokens.Token.{Token}
 use Rattle.ck_syntax.specs.Trees.{Expr, Specifiers, Declarator}
 

@@ -1,6 +1,6 @@
 -- Which declarations, statements and files are well formed (C99 6.7 to 6.9), in the manner of `Fitting`. File scope threads the
 -- typedef names through a file: the scope of a name begins behind its declarator (6.2.1).
-use Rattle.std.specs.Prelude.{◌≡◌, ◌⊎◌, ℕ, ◌≤◌, Bool, true, false, not, ◌&&◌, List, [], ◌∷◌, Option, Some, None, codes, if◌then◌else◌}
+use Rattle.std.specs.Prelude.{◌≡◌, ◌⊎◌, ℕ, ◌≤◌, Bool, true, false, List, [], ◌∷◌, Option, Some, None, codes, if◌then◌else◌}
 use Rattle.ck_base.specs.declared.tokens.Token.{Token}
 use Rattle.ck_syntax.specs.Fitting.{Fits, FitsEach, FitsDeclarator, IsComma, NewName, looseness}
 use Rattle.ck_syntax.specs.Specified.{Place, InBlock, InFile, stand_together, is_text}

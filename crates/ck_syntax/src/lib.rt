@@ -8,4 +8,4 @@
 
 mod laws;
 
-pub use laws::one_expression;
+pub use laws::{one_declaration, one_expression, one_external, one_file, one_statement};
