@@ -21,7 +21,7 @@ use Rattle.ck_syntax.specs.Trees.{Expr, Specifiers, Declarator, Name, Constant, 
 use Rattle.ck_syntax.specs.Words.{Word, Fixed, word_of}
 use Rattle.ck_syntax.specs.Written.{written, specifiers, declarator}
 
-type_name_read : (w : Token → Word) (n : ℕ) (s : Reader Specifiers) (r : Reader Declarator) → ReadsSpecifiers w n InType s → ReadsDeclarators w n NoName r → ReadsTypes w n (type_name s r)
+pub type_name_read : (w : Token → Word) (n : ℕ) (s : Reader Specifiers) (r : Reader Declarator) → ReadsSpecifiers w n InType s → ReadsDeclarators w n NoName r → ReadsTypes w n (type_name s r)
 type_name_read w n s r reads_s reads_d x d c more h good h' nests nests' close =
     let first : s (specifiers x (declarator d (c ∷ more))) ≡ Some (x, declarator d (c ∷ more)) = reads_s x (declarator d (c ∷ more)) h good nests (declarator_ends w NoName d (c ∷ more) h' (rw close refl)) in
     let second : r (declarator d (c ∷ more)) ≡ Some (d, c ∷ more) = reads_d d (c ∷ more) h' nests' (rw close refl) in

@@ -25,7 +25,7 @@ ReadsTypes w n ty = (s : Specifiers) (d : Declarator) (c : Token) (more : List T
 abbrev pub OpensTypes : (Token → Word) → Type 0
 OpensTypes w = (o : Token) (s : Specifiers) (more : List Token) → w o ≡ Fixed (codes "(") → FitsEach w false s → stand_together InType w s ≡ true → opens_type w (o ∷ specifiers s more) ≡ true
 
-prefix_by : (w : Token → Word) (p : ℕ → Reader Expr) (ty : Reader (Specifiers × Declarator)) (n : ℕ) (l : Lead) (e : Expr) (t : Token) (ts : List Token)
+pub prefix_by : (w : Token → Word) (p : ℕ → Reader Expr) (ty : Reader (Specifiers × Declarator)) (n : ℕ) (l : Lead) (e : Expr) (t : Token) (ts : List Token)
     → takes l e (is_tight w) ≡ true → (is_unary e ≡ true → opens_type w ts ≡ false) → unary_by w p ty n l t ts ≡ prefixed w p l t ts
 prefix_by w p ty n NameLead e t ts h shut = absurd (false≢true h)
 prefix_by w p ty n ConstantLead e t ts h shut = absurd (false≢true h)

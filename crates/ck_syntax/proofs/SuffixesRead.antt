@@ -65,11 +65,11 @@ abbrev pub StopsStrings : (Token → Word) → List Token → Type 0
 StopsStrings w [] = Unit {0}
 StopsStrings w (t ∷ ts) = is_string (w t) ≡ false
 
-abbrev is_neighbour : Follow → Bool
+abbrev pub is_neighbour : Follow → Bool
 is_neighbour Neighbour = true
 is_neighbour _ = false
 
-no_string : (word : Word) → is_neighbour (follow word) ≡ false → is_string word ≡ false
+pub no_string : (word : Word) → is_neighbour (follow word) ≡ false → is_string word ≡ false
 no_string Ordinary h = refl
 no_string Typedef h = refl
 no_string Number h = refl

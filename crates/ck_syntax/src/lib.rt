@@ -8,4 +8,7 @@
 
 mod laws;
 
-pub use laws::{one_declaration, one_expression, one_external, one_file, one_statement};
+pub use laws::{
+    one_declaration, one_expression, one_external, one_file, one_longest, one_statement,
+    reads_expressions, reads_files,
+};
