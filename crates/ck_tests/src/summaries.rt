@@ -4,8 +4,8 @@ ghost use Rattle.ck_graph.specs.Flow.{point_count};
 
 use crate::graphs::{Drawing, What, graph_of, roots_of};
 use ck_base::{Kind, Op, PointId, State};
-use ck_graph::{Graph, one_list_of_alarms};
-use ck_rows::{Rows, add_pair, compose, has_pair, image, no_pairs, pairs_are_bits, union_into};
+use ck_graph::Graph;
+use ck_rows::{Rows, add_pair, compose, has_pair, image, no_pairs, union_into};
 use ck_summary::{Table, alarms, solve};
 use std::alloc::Global;
 use std::test::Fail;
@@ -213,7 +213,6 @@ fn solved(alloc: Global, case: &Case) -> Result<(Graph, Table), Fail>
 
 #[test]
 fn alarms_of_graphs(rt: HostRuntime) -> Result<(), Fail> {
-    one_list_of_alarms();
     for case in CASES {
         let (graph, table) = solved(rt.alloc(), &case)?;
         let found = alarms(rt.alloc(), &graph, &table)?;
@@ -265,7 +264,6 @@ fn relation(pairs: &[(usize, usize)]) -> Rows {
 
 #[test]
 fn relations(rt: HostRuntime) {
-    pairs_are_bits();
     let first = relation(&[(0, 1), (0, 2), (15, 15)]);
     let second = relation(&[(1, 3), (2, 3), (4, 5), (15, 0)]);
     let both = relation(&[(0, 3), (15, 0)]);

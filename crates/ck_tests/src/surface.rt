@@ -1,7 +1,6 @@
 //! Each public call once, and the adapters over the real folder and the real output.
 use crate::project::folder_of;
-use ck_base::{Op, Unsupported, number, table_follows_the_kernel, words};
-use ck_cli::one_answer;
+use ck_base::{Op, Unsupported, number, words};
 use ck_io::{Folder, MemorySink, ReadError, RealFolder, RealSink, Sink, read_all, write_all};
 use ck_states::{Kind, Outcome, State, act};
 use std::fs;
@@ -9,8 +8,6 @@ use std::test::Fail;
 
 #[test]
 fn refusals(rt: HostRuntime) {
-    table_follows_the_kernel();
-    one_answer();
     let rows = [
         (Unsupported::U1, 1, "bad byte"),
         (Unsupported::U7, 7, "syntax"),
