@@ -5,10 +5,14 @@ mod BodiesRead
 mod CastsRead
 mod DeclarationsRead
 mod DeclaratorsRead
+pub mod Equations
 mod ExpressionsSound
 pub mod FilesAnswered
 pub mod FilesRead
+pub mod FirstLemmas
 mod Heads
+pub mod InFront
+pub mod InitialiserEquations
 mod InitialisersSound
 mod InitsRead
 mod Labels
@@ -20,7 +24,9 @@ pub mod LongestRead
 mod OnRead
 pub mod OneLongest
 mod OperandsRead
+pub mod Rows
 mod SpecifiersRead
+pub mod StatementEquations
 mod StatementsHeads
 mod StatementsLengths
 mod StatementsRead

@@ -1,5 +1,9 @@
 pub mod Answers
+pub mod DeclarationViews
+pub mod ExpressionViews
+pub mod FirstTokens
 pub mod Fitting
+pub mod InitialiserViews
 pub mod Nesting
 pub mod Parts
 pub mod Phrases
@@ -8,8 +12,10 @@ pub mod Reading
 pub mod ReadingExpressions
 pub mod ReadingStatements
 pub mod ReadingTypes
+pub mod Rows
 pub mod Specified
 pub mod Spelling
+pub mod StatementViews
 pub mod Statements
 pub mod StatementsFitting
 pub mod StatementsNesting

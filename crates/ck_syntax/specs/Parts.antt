@@ -1,5 +1,5 @@
--- What other definitions ask of an expression: the expressions right inside it, in written order, and whether it holds a call
--- that is evaluated (C99 6.5.2.2, 6.5.3.4).
+-- What other definitions ask of an expression: the expressions inside it, and whether it holds a call that is evaluated
+-- (C99 6.5.2.2, 6.5.3.4); and of a type, the expressions that it is written with.
 use Rattle.std.specs.Prelude.{Bool, true, false, ◌||◌, List, [], ◌∷◌, if◌then◌else◌}
 use Rattle.ck_base.specs.declared.tokens.Token.{Token}
 use Rattle.ck_syntax.specs.Trees.{Expr, Operands, Suffixes, Specifiers, Members, Declarators, Declarator, Dims, Params, MoreParams, Enumerators, Name, Constant, Strings, Paren, Suffixed, Prefixed, SizeofType, Cast, Chain, Choice, Assigned, NoOperands, Operand, NoSuffixes, Index, CallEmpty, Call, Access, Step, NoSpecifiers, TypedefName, Tagged, Struct, Enum, NoMembers, Member, NoDeclarators, Also, Abstract, Named, Nested, NoDims, Open, Sized, Function, NoParams, VoidParams, Parameters, NoMore, Ellipsis, More, LastOne, LastValued, One, Valued}
@@ -64,7 +64,7 @@ abbrev mutual
   of_enumerators (One t comma rest) more = of_enumerators rest more
   of_enumerators (Valued t eq e comma rest) more = e ∷ of_enumerators rest more
 
--- the expressions right inside an expression, in written order
+-- the expressions right inside an expression, in written order; those that its type names are written with are none
 abbrev pub children : Expr → List Expr
 children (Name t) = []
 children (Constant t) = []
@@ -72,11 +72,39 @@ children (Strings t ts) = []
 children (Paren o e c) = e ∷ []
 children (Suffixed e s) = e ∷ of_suffixes s []
 children (Prefixed op e) = e ∷ []
-children (SizeofType k o s d c) = of_specifiers s (of_declarator d [])
-children (Cast o s d c e) = of_specifiers s (of_declarator d (e ∷ []))
+children (SizeofType k o s d c) = []
+children (Cast o s d c e) = e ∷ []
 children (Chain e ops) = e ∷ of_operands ops []
 children (Choice e q a c b) = e ∷ a ∷ b ∷ []
 children (Assigned e op b) = e ∷ b ∷ []
+
+-- all expressions inside an expression and it itself, each once: operands from left to right, and behind them what they are the
+-- operands of
+abbrev mutual
+  pub subexpressions : Expr → List Expr → List Expr
+  subexpressions (Name t) more = Name t ∷ more
+  subexpressions (Constant t) more = Constant t ∷ more
+  subexpressions (Strings t ts) more = Strings t ts ∷ more
+  subexpressions (Paren o e c) more = subexpressions e (Paren o e c ∷ more)
+  subexpressions (Suffixed e s) more = subexpressions e (in_suffixes s (Suffixed e s ∷ more))
+  subexpressions (Prefixed op e) more = subexpressions e (Prefixed op e ∷ more)
+  subexpressions (SizeofType k o s d c) more = SizeofType k o s d c ∷ more
+  subexpressions (Cast o s d c e) more = subexpressions e (Cast o s d c e ∷ more)
+  subexpressions (Chain e ops) more = subexpressions e (in_operands ops (Chain e ops ∷ more))
+  subexpressions (Choice e q a c b) more = subexpressions e (subexpressions a (subexpressions b (Choice e q a c b ∷ more)))
+  subexpressions (Assigned e op b) more = subexpressions e (subexpressions b (Assigned e op b ∷ more))
+
+  pub in_operands : Operands → List Expr → List Expr
+  in_operands NoOperands more = more
+  in_operands (Operand op e rest) more = subexpressions e (in_operands rest more)
+
+  pub in_suffixes : Suffixes → List Expr → List Expr
+  in_suffixes NoSuffixes more = more
+  in_suffixes (Index o e c rest) more = subexpressions e (in_suffixes rest more)
+  in_suffixes (CallEmpty o c rest) more = in_suffixes rest more
+  in_suffixes (Call o e ops c rest) more = subexpressions e (in_operands ops (in_suffixes rest more))
+  in_suffixes (Access t n rest) more = in_suffixes rest more
+  in_suffixes (Step t rest) more = in_suffixes rest more
 
 abbrev pub is_sizeof : Lead → Bool
 is_sizeof SizeofLead = true

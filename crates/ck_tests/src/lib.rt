@@ -28,3 +28,5 @@ mod settings_faults;
 mod summaries;
 #[cfg(test)]
 mod surface;
+#[cfg(test)]
+mod trees;

@@ -1,0 +1,158 @@
+-- The plain tree that a tree of the program stands for, by the program's types, constructor by constructor. Memory is
+-- left out: `p`, `q` and `r` are a box's or a vector's own parts.
+use Rattle.std.specs.Prelude.{List, Option, None, Some}
+use Rattle.ck_base.specs.declared.tokens.Token.{Token}
+use Rattle.ck_syntax.specs.Trees as plain
+use Rattle.ck_syntax.specs.declared.declarators.Declarator.{Declarator, Abstract', Named', Nested', Row_of-Dim, end_of-Dim, more_of-Dim}
+use Rattle.ck_syntax.specs.declared.declarators.Dim.{Dim, Open, Sized, Function}
+use Rattle.ck_syntax.specs.declared.declarators.Ellipsis.{Ellipsis}
+use Rattle.ck_syntax.specs.declared.declarators.NextDeclarator.{NextDeclarator}
+use Rattle.ck_syntax.specs.declared.declarators.NextParameter.{NextParameter}
+use Rattle.ck_syntax.specs.declared.declarators.Parameters.{Parameters, Empty, Void, Listed', Row_of-NextParameter, end_of-NextParameter, more_of-NextParameter}
+use Rattle.ck_syntax.specs.declared.expressions.Expr.{Expr, Name, Constant, Strings, Paren', Suffixed', Prefixed', SizeofType', Cast', Chain', Choice', Assigned', Row_of-Operand, end_of-Operand, more_of-Operand, Row_of-Suffix, end_of-Suffix, more_of-Suffix, Row_of-Specifier, end_of-Specifier, more_of-Specifier}
+use Rattle.ck_syntax.specs.declared.expressions.Operand.{Operand}
+use Rattle.ck_syntax.specs.declared.expressions.Suffix.{Suffix, Index, CallEmpty, Call', Access, Step}
+use Rattle.ck_syntax.specs.declared.specifiers.Enumerator.{Enumerator, Plain, Valued}
+use Rattle.ck_syntax.specs.declared.specifiers.FrontEnumerator.{FrontEnumerator}
+use Rattle.ck_syntax.specs.declared.specifiers.Member.{Member, Member', Row_of-NextDeclarator, end_of-NextDeclarator, more_of-NextDeclarator}
+use Rattle.ck_syntax.specs.declared.specifiers.Specifier.{Specifier, Word, TypedefName, Tagged, Struct', Enum', Row_of-Member, end_of-Member, more_of-Member, Row_of-FrontEnumerator, end_of-FrontEnumerator, more_of-FrontEnumerator}
+use Rattle.ck_syntax.specs.Rows.{in_front}
+
+-- what may end parameters
+abbrev pub ellipsis_tree : Option Ellipsis → plain.MoreParams
+ellipsis_tree None = plain.NoMore
+ellipsis_tree (Some e) = plain.Ellipsis e.comma e.dots
+
+unfoldable mutual
+  pub expr_tree : {A : Type 0} → Expr A → plain.Expr
+  expr_tree (Name token) = plain.Name token
+  expr_tree (Constant token) = plain.Constant token
+  expr_tree (Strings first others) = plain.Strings first others.items
+  expr_tree (Paren' opening p inner closing) = plain.Paren opening (expr_tree inner) closing
+  expr_tree (Suffixed' p primary q suffixes) = plain.Suffixed (expr_tree primary) (suffix_row suffixes)
+  expr_tree (Prefixed' operator p operand) = plain.Prefixed operator (expr_tree operand)
+  expr_tree (SizeofType' keyword opening q specifiers p declarator closing) = plain.SizeofType keyword opening (specifier_row specifiers) (declarator_tree declarator) closing
+  expr_tree (Cast' opening q specifiers p declarator closing r operand) = plain.Cast opening (specifier_row specifiers) (declarator_tree declarator) closing (expr_tree operand)
+  expr_tree (Chain' p first q operands) = plain.Chain (expr_tree first) (operand_row operands)
+  expr_tree (Choice' p test question q then colon r otherwise) = plain.Choice (expr_tree test) question (expr_tree then) colon (expr_tree otherwise)
+  expr_tree (Assigned' p target operator q value) = plain.Assigned (expr_tree target) operator (expr_tree value)
+
+  pub operand_row : {A : Type 0} → {n : _} → Row_of-Operand A n → plain.Operands
+  operand_row end_of-Operand = plain.NoOperands
+  operand_row (more_of-Operand operator operand others) = plain.Operand operator (expr_tree operand) (operand_row others)
+
+  -- a suffix in front of others
+  pub suffix_before : {A : Type 0} → Suffix A → plain.Suffixes → plain.Suffixes
+  suffix_before (Index opening index closing) others = plain.Index opening (expr_tree index) closing others
+  suffix_before (CallEmpty opening closing) others = plain.CallEmpty opening closing others
+  suffix_before (Call' opening first q arguments closing) others = plain.Call opening (expr_tree first) (operand_row arguments) closing others
+  suffix_before (Access operator member) others = plain.Access operator member others
+  suffix_before (Step operator) others = plain.Step operator others
+
+  pub suffix_row : {A : Type 0} → {n : _} → Row_of-Suffix A n → plain.Suffixes
+  suffix_row end_of-Suffix = plain.NoSuffixes
+  suffix_row (more_of-Suffix suffix others) = suffix_before suffix (suffix_row others)
+
+  -- a specifier in front of others
+  pub specifier_before : {A : Type 0} → Specifier A → plain.Specifiers → plain.Specifiers
+  specifier_before (Word token) others = plain.Word token others
+  specifier_before (TypedefName token) others = plain.TypedefName token others
+  specifier_before (Tagged keyword tag) others = plain.Tagged keyword tag others
+  specifier_before (Struct' keyword tag opening q members closing) others = plain.Struct keyword tag opening (member_row members) closing others
+  specifier_before (Enum' keyword tag opening q front last comma closing) others = plain.Enum keyword tag opening (enumerator_row front (last_enumerator last comma)) closing others
+
+  pub specifier_row : {A : Type 0} → {n : _} → Row_of-Specifier A n → plain.Specifiers
+  specifier_row end_of-Specifier = plain.NoSpecifiers
+  specifier_row (more_of-Specifier specifier others) = specifier_before specifier (specifier_row others)
+
+  -- a member declaration in front of others
+  pub member_before : {A : Type 0} → Member A → plain.Members → plain.Members
+  member_before (Member' q specifiers first r declarators semicolon) others = plain.Member (specifier_row specifiers) (declarator_tree first) (declarator_row declarators) semicolon others
+
+  pub member_row : {A : Type 0} → {n : _} → Row_of-Member A n → plain.Members
+  member_row end_of-Member = plain.NoMembers
+  member_row (more_of-Member member others) = member_before member (member_row others)
+
+  pub declarator_row : {A : Type 0} → {n : _} → Row_of-NextDeclarator A n → plain.Declarators
+  declarator_row end_of-NextDeclarator = plain.NoDeclarators
+  declarator_row (more_of-NextDeclarator comma declarator others) = plain.Also comma (declarator_tree declarator) (declarator_row others)
+
+  pub declarator_tree : {A : Type 0} → Declarator A → plain.Declarator
+  declarator_tree (Abstract' stars q dims) = plain.Abstract stars.items (dim_row dims)
+  declarator_tree (Named' stars name q dims) = plain.Named stars.items name (dim_row dims)
+  declarator_tree (Nested' stars opening p inner closing q dims) = plain.Nested stars.items opening (declarator_tree inner) closing (dim_row dims)
+
+  -- a suffix of a declarator in front of others
+  pub dim_before : {A : Type 0} → Dim A → plain.Dims → plain.Dims
+  dim_before (Open opening closing) others = plain.Open opening closing others
+  dim_before (Sized opening size closing) others = plain.Sized opening (expr_tree size) closing others
+  dim_before (Function opening parameters closing) others = plain.Function opening (parameters_tree parameters) closing others
+
+  pub dim_row : {A : Type 0} → {n : _} → Row_of-Dim A n → plain.Dims
+  dim_row end_of-Dim = plain.NoDims
+  dim_row (more_of-Dim dim others) = dim_before dim (dim_row others)
+
+  pub parameters_tree : {A : Type 0} → Parameters A → plain.Params
+  parameters_tree Empty = plain.NoParams
+  parameters_tree (Void token) = plain.VoidParams token
+  parameters_tree (Listed' q specifiers declarator r others ellipsis) = plain.Parameters (specifier_row specifiers) (declarator_tree declarator) (parameter_row others (ellipsis_tree ellipsis))
+
+  pub parameter_row : {A : Type 0} → {n : _} → Row_of-NextParameter A n → plain.MoreParams → plain.MoreParams
+  parameter_row end_of-NextParameter end = end
+  parameter_row (more_of-NextParameter comma q specifiers declarator others) end = plain.More comma (specifier_row specifiers) (declarator_tree declarator) (parameter_row others end)
+
+  -- the last enumerator, maybe with a comma
+  pub last_enumerator : {A : Type 0} → Enumerator A → Option Token → plain.Enumerators
+  last_enumerator (Plain name) comma = plain.LastOne name comma
+  last_enumerator (Valued name equals value) comma = plain.LastValued name equals (expr_tree value) comma
+
+  -- an enumerator and a comma in front of others
+  pub enumerator_before : {A : Type 0} → Enumerator A → Token → plain.Enumerators → plain.Enumerators
+  enumerator_before (Plain name) comma others = plain.One name comma others
+  enumerator_before (Valued name equals value) comma others = plain.Valued name equals (expr_tree value) comma others
+
+  pub enumerator_row : {A : Type 0} → {n : _} → Row_of-FrontEnumerator A n → plain.Enumerators → plain.Enumerators
+  enumerator_row end_of-FrontEnumerator last = last
+  enumerator_row (more_of-FrontEnumerator enumerator comma others) last = enumerator_before enumerator comma (enumerator_row others last)
+
+-- an operator and an operand in front of others
+abbrev pub operand_before : {A : Type 0} → Operand A → plain.Operands → plain.Operands
+operand_before o others = plain.Operand o.operator (expr_tree o.operand) others
+
+-- a comma and a declarator in front of others
+abbrev pub declarator_before : {A : Type 0} → NextDeclarator A → plain.Declarators → plain.Declarators
+declarator_before d others = plain.Also d.comma (declarator_tree d.declarator) others
+
+abbrev pub operand_trees : {A : Type 0} → List (Operand A) → plain.Operands
+operand_trees os = in_front operand_before os plain.NoOperands
+
+abbrev pub suffix_trees : {A : Type 0} → List (Suffix A) → plain.Suffixes
+suffix_trees ss = in_front suffix_before ss plain.NoSuffixes
+
+abbrev pub specifier_trees : {A : Type 0} → List (Specifier A) → plain.Specifiers
+specifier_trees ss = in_front specifier_before ss plain.NoSpecifiers
+
+abbrev pub member_trees : {A : Type 0} → List (Member A) → plain.Members
+member_trees ms = in_front member_before ms plain.NoMembers
+
+abbrev pub declarator_trees : {A : Type 0} → List (NextDeclarator A) → plain.Declarators
+declarator_trees ds = in_front declarator_before ds plain.NoDeclarators
+
+abbrev pub dim_trees : {A : Type 0} → List (Dim A) → plain.Dims
+dim_trees ds = in_front dim_before ds plain.NoDims
+
+-- a comma and a parameter in front of others
+abbrev pub parameter_before : {A : Type 0} → NextParameter A → plain.MoreParams → plain.MoreParams
+parameter_before p others = plain.More p.comma (specifier_trees p.specifiers.items) (declarator_tree p.declarator) others
+
+-- further parameters, and what may end them
+abbrev pub parameter_trees : {A : Type 0} → List (NextParameter A) → Option Ellipsis → plain.MoreParams
+parameter_trees ps end = in_front parameter_before ps (ellipsis_tree end)
+
+-- an enumerator and the comma behind it in front of others
+abbrev pub front_enumerator_before : {A : Type 0} → FrontEnumerator A → plain.Enumerators → plain.Enumerators
+front_enumerator_before e others = enumerator_before e.enumerator e.comma others
+
+-- enumerators: those with others behind them, the last one, and maybe a comma
+abbrev pub enumerator_trees : {A : Type 0} → List (FrontEnumerator A) → Enumerator A → Option Token → plain.Enumerators
+enumerator_trees front last comma = in_front front_enumerator_before front (last_enumerator last comma)

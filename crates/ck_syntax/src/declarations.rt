@@ -1,0 +1,161 @@
+//! Declarations, and what `for` begins with: the types, and a builder for each production.
+ghost use Rattle.std.specs.Prelude.{◌≡◌};
+ghost use Rattle.ck_syntax.specs.Statements as plain;
+ghost use Rattle.ck_syntax.specs.ExpressionViews.{expr_tree, declarator_tree, specifier_trees};
+ghost use Rattle.ck_syntax.specs.InitialiserViews.{init_tree};
+ghost use Rattle.ck_syntax.specs.DeclarationViews.{declared_before, declared_trees, declared_tree, declaration_tree, for_start_tree, initialised_before};
+
+use crate::declarators::Declarator;
+use crate::expressions::Expr;
+use crate::initialisers::Init;
+use crate::specifiers::Specifier;
+use ck_base::Token;
+use std::alloc::Allocator;
+
+/// `=` and an initialiser (C99 6.7).
+#[derive(Drop)]
+pub struct Initialiser<A: Allocator> {
+    pub equals: Token,
+    pub init: Init<A>,
+}
+
+/// A comma and a further declarator, maybe with an initialiser (6.7).
+#[derive(Drop)]
+pub struct NextDeclared<A: Allocator> {
+    pub comma: Token,
+    pub declarator: Declarator<A>,
+    pub initialiser: Option<Initialiser<A>>,
+}
+
+/// A declaration (6.7).
+pub enum Decl<A: Allocator> {
+    /// Specifiers and `;`
+    Bare {
+        specifiers: Vec<Specifier<A>, A>,
+        semicolon: Token,
+    },
+    /// Specifiers, a declarator and maybe its initialiser, further ones, `;`
+    Declares {
+        specifiers: Vec<Specifier<A>, A>,
+        declarator: Declarator<A>,
+        initialiser: Option<Initialiser<A>>,
+        others: Vec<NextDeclared<A>, A>,
+        semicolon: Token,
+    },
+}
+
+/// What `for` begins with (6.8.5.3).
+pub enum ForStart<A: Allocator> {
+    /// `;`
+    Empty(Token),
+    /// expression `;`
+    Evaluates { expr: Expr<A>, semicolon: Token },
+    /// A declaration.
+    Declares(Decl<A>),
+}
+
+// By hand, since a derived drop is written out in every function that lets a tree go.
+// By hand, since a derived drop is written out in every function that lets a tree go.
+impl<A: Allocator> Drop for ForStart<A> {
+    fn drop(self) {
+        match self {
+            ForStart::Empty(_held) => {}
+            ForStart::Evaluates {
+                expr: _expr,
+                semicolon: _semicolon,
+            } => {}
+            ForStart::Declares(_held) => {}
+        }
+    }
+}
+
+impl<A: Allocator> Drop for Decl<A> {
+    fn drop(self) {
+        match self {
+            Decl::Bare {
+                specifiers: _specifiers,
+                semicolon: _semicolon,
+            } => {}
+            Decl::Declares {
+                specifiers: _specifiers,
+                declarator: _declarator,
+                initialiser: _initialiser,
+                others: _others,
+                semicolon: _semicolon,
+            } => {}
+        }
+    }
+}
+
+impl<A: Allocator> NextDeclared<A> {
+    /// A comma and a further declarator, maybe with an initialiser.
+    pub fn new(
+        comma: Token,
+        declarator: Declarator<A>,
+        initialiser: Option<Initialiser<A>>,
+    ) -> NextDeclared<A>
+        ensures { declared_before result ≡ initialised_before comma declarator initialiser }
+    {
+        NextDeclared {
+            comma,
+            declarator,
+            initialiser,
+        }
+    }
+}
+
+impl<A: Allocator> Decl<A> {
+    /// Specifiers and `;`
+    pub fn bare(specifiers: Vec<Specifier<A>, A>, semicolon: Token) -> Decl<A>
+        ensures { declaration_tree result ≡ plain.Bare (specifier_trees specifiers.items) semicolon }
+    {
+        Decl::Bare {
+            specifiers,
+            semicolon,
+        }
+    }
+
+    /// Specifiers, a declarator and maybe its initialiser, further ones, `;`
+    pub fn declares(
+        specifiers: Vec<Specifier<A>, A>,
+        declarator: Declarator<A>,
+        initialiser: Option<Initialiser<A>>,
+        others: Vec<NextDeclared<A>, A>,
+        semicolon: Token,
+    ) -> Decl<A>
+        ensures { declaration_tree result ≡ plain.Declares (specifier_trees specifiers.items)
+            (declarator_tree declarator) (declared_tree initialiser (declared_trees others.items))
+            semicolon }
+    {
+        Decl::Declares {
+            specifiers,
+            declarator,
+            initialiser,
+            others,
+            semicolon,
+        }
+    }
+}
+
+impl<A: Allocator> ForStart<A> {
+    /// `;`
+    pub fn empty(semicolon: Token) -> ForStart<A>
+        ensures { for_start_tree result ≡ plain.StartEmpty semicolon }
+    {
+        ForStart::Empty(semicolon)
+    }
+
+    /// expression `;`
+    pub fn evaluates(expr: Expr<A>, semicolon: Token) -> ForStart<A>
+        ensures { for_start_tree result ≡ plain.StartExpr (expr_tree expr) semicolon }
+    {
+        ForStart::Evaluates { expr, semicolon }
+    }
+
+    /// A declaration.
+    pub fn declares(declaration: Decl<A>) -> ForStart<A>
+        ensures { for_start_tree result ≡ plain.StartDeclaration (declaration_tree declaration) }
+    {
+        ForStart::Declares(declaration)
+    }
+}
