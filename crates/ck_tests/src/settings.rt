@@ -86,6 +86,30 @@ fn classes_and_their_ops(rt: HostRuntime) -> Result<(), Fail> {
 const WHOLE: &str =
     "version = 1\nkernel_priority = 2\ntimer_priority = 3\n[[function]]\nname = \"z\"\nclass = \"S\"\nwakes = true\n[[vector]]\nfunction = \"Vector44\"\npriority = 0\n[[callback]]\nstruct = \"GPTConfig\"\nmember = \"callback\"\npriority = 2\n[[vector]]\nfunction = \"Vector40\"\npriority = 255\n[[callback]]\nstruct = \"GPTConfig\"\nmember = \"other\"\npriority = 255\n[[function]]\nname = \"a\"\nclass = \"neutral\"\n[[callback]]\nstruct = \"Ops\"\nmember = \"callback\"\npriority = 6\n";
 
+/// Whether these are the settings' vectors, in order.
+fn has_vectors(settings: &Settings, rows: &[(&str, u8)]) -> bool {
+    settings.vectors.len() == rows.len()
+        && settings.vectors.iter().zip(rows).all(|(vector, row)| vector.function.as_str() == row.0
+            && vector.priority == row.1)
+}
+
+/// Whether these are the settings' callbacks, in order.
+fn has_callbacks(settings: &Settings, rows: &[(&str, &str, u8)]) -> bool {
+    settings.callbacks.len() == rows.len()
+        && settings.callbacks.iter().zip(rows).all(|(callback, row)| {
+            callback.of_struct.as_str() == row.0
+                && callback.member.as_str() == row.1
+                && callback.priority == row.2
+        })
+}
+
+/// Whether these are the settings' outside functions, in order.
+fn has_functions(settings: &Settings, rows: &[(&str, Op)]) -> bool {
+    settings.functions.len() == rows.len()
+        && settings.functions.iter().zip(rows).all(|(function, row)| function.name.as_str() == row.0
+            && function.op == row.1)
+}
+
 #[test]
 fn lists_in_written_order(rt: HostRuntime) -> Result<(), Fail> {
     let settings = settings_of(rt.alloc(), WHOLE)?;
@@ -97,22 +121,9 @@ fn lists_in_written_order(rt: HostRuntime) -> Result<(), Fail> {
     ];
     let functions = [("z", Op::SWakes), ("a", Op::Neutral)];
     assert_eq!(rt; settings.timer_priority, 3);
-    assert_eq!(rt; settings.vectors.len(), 2);
-    assert_eq!(rt; settings.callbacks.len(), 3);
-    assert_eq!(rt; settings.functions.len(), 2);
-    for (vector, row) in settings.vectors.iter().zip(vectors) {
-        assert_eq!(rt; vector.function.as_str(), row.0);
-        assert_eq!(rt; vector.priority, row.1);
-    }
-    for (callback, row) in settings.callbacks.iter().zip(callbacks) {
-        assert_eq!(rt; callback.of_struct.as_str(), row.0);
-        assert_eq!(rt; callback.member.as_str(), row.1);
-        assert_eq!(rt; callback.priority, row.2);
-    }
-    for (function, row) in settings.functions.iter().zip(functions) {
-        assert_eq!(rt; function.name.as_str(), row.0);
-        assert!(rt; function.op == row.1);
-    }
+    assert!(rt; has_vectors(&settings, &vectors));
+    assert!(rt; has_callbacks(&settings, &callbacks));
+    assert!(rt; has_functions(&settings, &functions));
     Ok(())
 }
 
@@ -123,21 +134,13 @@ const EXAMPLE: &str =
 #[test]
 fn the_example(rt: HostRuntime) -> Result<(), Fail> {
     let settings = settings_of(rt.alloc(), EXAMPLE)?;
+    let callbacks = [("GPTConfig", "callback", 6)];
+    let functions = [("gptStart", Op::Normal), ("palToggleLine", Op::Neutral)];
     assert_eq!(rt; settings.kernel_priority, 2);
     assert_eq!(rt; settings.timer_priority, 2);
-    assert!(rt; settings.vectors.is_empty());
-    assert_eq!(rt; settings.callbacks.len(), 1);
-    assert_eq!(rt; settings.functions.len(), 2);
-    for callback in &settings.callbacks {
-        assert_eq!(rt; callback.of_struct.as_str(), "GPTConfig");
-        assert_eq!(rt; callback.member.as_str(), "callback");
-        assert_eq!(rt; callback.priority, 6);
-    }
-    let functions = [("gptStart", Op::Normal), ("palToggleLine", Op::Neutral)];
-    for (function, row) in settings.functions.iter().zip(functions) {
-        assert_eq!(rt; function.name.as_str(), row.0);
-        assert!(rt; function.op == row.1);
-    }
+    assert!(rt; has_vectors(&settings, &[]));
+    assert!(rt; has_callbacks(&settings, &callbacks));
+    assert!(rt; has_functions(&settings, &functions));
     Ok(())
 }
 
