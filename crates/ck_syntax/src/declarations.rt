@@ -55,7 +55,6 @@ pub enum ForStart<A: Allocator> {
 }
 
 // By hand, since a derived drop is written out in every function that lets a tree go.
-// By hand, since a derived drop is written out in every function that lets a tree go.
 impl<A: Allocator> Drop for ForStart<A> {
     fn drop(self) {
         match self {
@@ -69,6 +68,7 @@ impl<A: Allocator> Drop for ForStart<A> {
     }
 }
 
+// By hand, since a derived drop is written out in every function that lets a tree go.
 impl<A: Allocator> Drop for Decl<A> {
     fn drop(self) {
         match self {
