@@ -36,6 +36,7 @@ mod SuffixesRead
 mod Texts
 mod TypeStops
 mod TypesSound
+pub mod WalksGrown
 mod WordsTold
 mod Worked
 mod WorkedDepth

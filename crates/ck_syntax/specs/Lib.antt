@@ -21,5 +21,6 @@ pub mod StatementsFitting
 pub mod StatementsNesting
 pub mod StatementsWritten
 pub mod Trees
+pub mod Walks
 pub mod Words
 pub mod Written

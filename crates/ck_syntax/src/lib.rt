@@ -19,6 +19,7 @@ mod initialisers;
 mod laws;
 mod specifiers;
 mod statements;
+mod walks;
 
 pub use declarations::{Decl, ForStart, Initialiser, NextDeclared};
 pub use declarators::{Declarator, Dim, Ellipsis, NextDeclarator, NextParameter, Parameters};
