@@ -6,7 +6,7 @@ use Rattle.std.proofs.Math.Seq.{drop-cons, drop-length}
 use Rattle.std.specs.Borrow.{Bor}
 use Rattle.ck_syntax.specs.Trees as plain
 use Rattle.ck_syntax.specs.ExpressionViews.{expr_tree, operand_trees, suffix_before, suffix_trees}
-use Rattle.ck_syntax.specs.Parts.{children, of_operands, of_suffixes}
+use Rattle.ck_syntax.specs.Parts.{children, of_operands, of_suffixes, subexpressions, in_operands, in_suffixes}
 use Rattle.ck_syntax.specs.Walks.{trees_of, Grew}
 use Rattle.ck_syntax.specs.declared.expressions.Expr.{Expr}
 use Rattle.ck_syntax.specs.declared.expressions.Operand.{Operand}
@@ -28,6 +28,19 @@ suffix_front s = of_suffixes (suffix_before s plain.NoSuffixes)
 -- what is right inside an expression in front of others
 abbrev pub children_front : plain.Expr → List plain.Expr → List plain.Expr
 children_front e more = children e ++ more
+
+-- all that is inside operands, and inside suffixes, in front of others
+abbrev pub operands_within : {A : Type 0} → List (Operand A) → List plain.Expr → List plain.Expr
+operands_within os = in_operands (operand_trees os)
+
+abbrev pub suffixes_within : {A : Type 0} → List (Suffix A) → List plain.Expr → List plain.Expr
+suffixes_within ss = in_suffixes (suffix_trees ss)
+
+abbrev pub operand_within : {A : Type 0} → Operand A → List plain.Expr → List plain.Expr
+operand_within o = subexpressions (expr_tree o.operand)
+
+abbrev pub suffix_within : {A : Type 0} → Suffix A → List plain.Expr → List plain.Expr
+suffix_within s = in_suffixes (suffix_before s plain.NoSuffixes)
 
 -- what a loop keeps true: with what is left in front of any others, the list is what it was with all of it in front
 abbrev pub Growing : {A X : Type 0} → (List X → List plain.Expr → List plain.Expr) → List X → List (Bor (Expr A)) → List (Bor (Expr A)) → ℕ → Type 0
@@ -96,3 +109,12 @@ of_suffixes-append (plain.Step t rest) es more = of_suffixes-append rest es more
 -- a list that was empty
 pub grew_all : {A : Type 0} (before after : List (Bor (Expr A))) (f : List plain.Expr → List plain.Expr) → before ≡ [] → Grew before after f → trees_of after ≡ f []
 grew_all before after f none grew = sym (append-nil (trees_of after)) ∙ grew [] ∙ ap (λ es. trees_of es ++ f []) none
+
+-- all that is inside the first suffix, and inside those behind it
+pub in_suffixes-before : {A : Type 0} (suffix : Suffix A) (rest : plain.Suffixes) (more : List plain.Expr) → in_suffixes (suffix_before suffix rest) more ≡ in_suffixes (suffix_before suffix plain.NoSuffixes) (in_suffixes rest more)
+unfolding expr_tree
+in_suffixes-before (Index opening index closing) rest more = refl
+in_suffixes-before (CallEmpty opening closing) rest more = refl
+in_suffixes-before (Call' opening first q arguments closing) rest more = refl
+in_suffixes-before (Access operator member) rest more = refl
+in_suffixes-before (Step operator) rest more = refl
