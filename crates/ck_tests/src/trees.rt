@@ -120,3 +120,50 @@ fn deep_trees(rt: HostRuntime) -> Result<(), Fail> {
     drop(block);
     Ok(())
 }
+
+/// `f(a)[b]`, each token at its own place.
+fn called_and_indexed(alloc: Global) -> Result<Expr<Global>, OutOfMemory> {
+    let mut suffixes = Vec::new(alloc);
+    suffixes.push(Suffix::call(
+        token_at(1),
+        Expr::name(token_at(2)),
+        Vec::new(alloc),
+        token_at(3),
+    ))?;
+    suffixes.push(Suffix::index(token_at(4), Expr::name(token_at(5)), token_at(6)))?;
+    Expr::suffixed(alloc, Expr::name(token_at(0)), suffixes)
+}
+
+/// Where an expression of the list begins.
+fn start_of(list: &Vec<&Expr<Global>>, place: usize) -> Option<u32> {
+    match list.get(place) {
+        Some(tree) => Some(tree.first_token().span.start),
+        None => None,
+    }
+}
+
+#[test]
+fn children_in_order(rt: HostRuntime) -> Result<(), Fail> {
+    let alloc = rt.alloc();
+    let tree = called_and_indexed(alloc)?;
+    let children = tree.children(alloc)?;
+    assert_eq!(rt; start_of(&children, 0), Some(0));
+    assert_eq!(rt; start_of(&children, 1), Some(2));
+    assert_eq!(rt; start_of(&children, 2), Some(5));
+    assert_eq!(rt; start_of(&children, 3), None);
+    Ok(())
+}
+
+#[test]
+fn all_inside(rt: HostRuntime) -> Result<(), Fail> {
+    let alloc = rt.alloc();
+    let chain = long_chain(alloc, LONG)?;
+    assert_eq!(rt; chain.subexpressions(alloc)?.len(), LONG as usize + 2);
+    let nested = deep_expr(alloc, Expr::name(token_at(0)), DEEP)?;
+    assert_eq!(rt; nested.subexpressions(alloc)?.len(), DEEP as usize + 1);
+    let tree = called_and_indexed(alloc)?;
+    let inside = tree.subexpressions(alloc)?;
+    assert_eq!(rt; start_of(&inside, 2), Some(5));
+    assert_eq!(rt; inside.len(), 4);
+    Ok(())
+}
