@@ -1,11 +1,11 @@
 //! The syntax of the C subset: its trees, and which tokens a tree spells.
 //!
 //! In: tokens, smaller trees and an allocator; of the laws, plain trees, bytes and typedef names. Out: one
-//! type per kind of node with one variant per production, and for each production a builder, whose clause
-//! says which plain tree came of it; and laws about the definitions. What rules it is `specs/Spelling.antt`,
-//! which tokens a plain tree spells, over the plain trees of `specs/Trees.antt` and `Statements.antt`
-//! (docs/LANGUAGE.md has them in words), and the views from the trees in memory to the plain ones,
-//! `specs/ExpressionViews.antt` and its neighbours.
+//! type per kind of node with one variant per production; for each production a builder, whose clause says
+//! which plain tree came of it; walks over expressions; and laws about the definitions. What rules it is
+//! `specs/Spelling.antt`, which tokens a plain tree spells, over the plain trees of `specs/Trees.antt` and
+//! `Statements.antt` (docs/LANGUAGE.md has them in words), and the views from the trees in memory to the
+//! plain ones, `specs/ExpressionViews.antt` and its neighbours.
 //!
 //! Left-associative operators, suffixes, pointer stars and items are vectors, so no walk and no drop goes
 //! deeper than the nesting. It must not know: types, scopes, and how tokens are cut or read.
