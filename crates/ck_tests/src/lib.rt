@@ -7,6 +7,8 @@
 #![tactic(auto)]
 
 #[cfg(test)]
+mod builders;
+#[cfg(test)]
 mod faults;
 #[cfg(test)]
 mod faults_of_graphs;

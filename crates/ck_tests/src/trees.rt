@@ -10,7 +10,7 @@ const LONG: u32 = 300_000;
 /// The deepest nesting (docs/LANGUAGE.md).
 const DEEP: u32 = 200;
 
-fn token_at(start: u32) -> Token {
+pub fn token_at(start: u32) -> Token {
     Token {
         kind: TokenKind::Mark,
         span: Span {
