@@ -1,7 +1,7 @@
 -- The views at the program's constructors, one equation per production.
 use Rattle.std.proofs.Common.{◌≡◌, Box, Vec, Option, refl, ap, ◌∙◌}
 use Rattle.ck_base.specs.declared.tokens.Token.{Token}
-use Rattle.ck_syntax.specs.Trees as plain
+use Rattle.ck_grammar.specs.Trees as plain
 use Rattle.ck_syntax.specs.ExpressionViews.{expr_tree, operand_trees, suffix_before, suffix_trees, specifier_before, specifier_trees, member_before, member_trees, last_enumerator, enumerator_before, enumerator_trees, declarator_tree, declarator_trees, dim_before, dim_trees, parameters_tree, parameter_row, parameter_trees, specifier_row, declarator_row, ellipsis_tree}
 use Rattle.ck_syntax.specs.declared.declarators.Declarator.{Declarator, Abstract, Named, Nested}
 use Rattle.ck_syntax.specs.declared.declarators.Declarator.TheBlock.{hidden-the_row-Specifier-1, hidden-the_row-NextParameter-2, hidden-the_row-NextDeclarator-7}

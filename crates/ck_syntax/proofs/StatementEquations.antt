@@ -1,7 +1,7 @@
 -- The views of statements at the program's constructors, one equation per production.
 use Rattle.std.proofs.Common.{◌≡◌, Box, Vec, Option, refl, ap, ◌∙◌}
 use Rattle.ck_base.specs.declared.tokens.Token.{Token}
-use Rattle.ck_syntax.specs.Statements as plain
+use Rattle.ck_grammar.specs.Statements as plain
 use Rattle.ck_syntax.specs.DeclarationViews.{declaration_tree, for_start_tree}
 use Rattle.ck_syntax.specs.ExpressionViews.{expr_tree}
 use Rattle.ck_syntax.specs.StatementViews.{statement_tree, item_before, item_row, item_trees, expr_option}

@@ -4,7 +4,7 @@ use Rattle.std.proofs.lemmas.List.{append-nil}
 use Rattle.std.proofs.lemmas.Result.{IfOk-weaker}
 use Rattle.std.proofs.Math.Seq.{drop-cons, drop-length}
 use Rattle.std.specs.Borrow.{Bor}
-use Rattle.ck_syntax.specs.Trees as plain
+use Rattle.ck_grammar.specs.Trees as plain
 use Rattle.ck_syntax.specs.ExpressionViews.{expr_tree, operand_trees, suffix_before, suffix_trees}
 use Rattle.ck_syntax.specs.Parts.{children, of_operands, of_suffixes, subexpressions, in_operands, in_suffixes}
 use Rattle.ck_syntax.specs.Walks.{trees_of, Grew}

@@ -1,7 +1,7 @@
 -- The plain trees that declarations stand for, and what `for` begins with.
 use Rattle.std.specs.Prelude.{List, Option, None, Some}
 use Rattle.ck_base.specs.declared.tokens.Token.{Token}
-use Rattle.ck_syntax.specs.Statements as plain
+use Rattle.ck_grammar.specs.Statements as plain
 use Rattle.ck_syntax.specs.ExpressionViews.{expr_tree, declarator_tree, specifier_trees}
 use Rattle.ck_syntax.specs.InitialiserViews.{init_tree}
 use Rattle.ck_syntax.specs.Rows.{in_front}

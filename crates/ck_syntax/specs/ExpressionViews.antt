@@ -2,7 +2,7 @@
 -- left out: `p`, `q` and `r` are a box's or a vector's own parts.
 use Rattle.std.specs.Prelude.{List, Option, None, Some}
 use Rattle.ck_base.specs.declared.tokens.Token.{Token}
-use Rattle.ck_syntax.specs.Trees as plain
+use Rattle.ck_grammar.specs.Trees as plain
 use Rattle.ck_syntax.specs.declared.declarators.Declarator.{Declarator, Abstract', Named', Nested', Row_of-Dim, end_of-Dim, more_of-Dim}
 use Rattle.ck_syntax.specs.declared.declarators.Dim.{Dim, Open, Sized, Function}
 use Rattle.ck_syntax.specs.declared.declarators.Ellipsis.{Ellipsis}

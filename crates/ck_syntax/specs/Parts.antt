@@ -2,9 +2,9 @@
 -- (C99 6.5.2.2, 6.5.3.4); and of a type, the expressions that it is written with.
 use Rattle.std.specs.Prelude.{Bool, true, false, ◌||◌, List, [], ◌∷◌, if◌then◌else◌}
 use Rattle.ck_base.specs.declared.tokens.Token.{Token}
-use Rattle.ck_syntax.specs.Trees.{Expr, Operands, Suffixes, Specifiers, Members, Declarators, Declarator, Dims, Params, MoreParams, Enumerators, Name, Constant, Strings, Paren, Suffixed, Prefixed, SizeofType, Cast, Chain, Choice, Assigned, NoOperands, Operand, NoSuffixes, Index, CallEmpty, Call, Access, Step, NoSpecifiers, TypedefName, Tagged, Struct, Enum, NoMembers, Member, NoDeclarators, Also, Abstract, Named, Nested, NoDims, Open, Sized, Function, NoParams, VoidParams, Parameters, NoMore, Ellipsis, More, LastOne, LastValued, One, Valued}
-use Rattle.ck_syntax.specs.Trees as trees
-use Rattle.ck_syntax.specs.Words.{Word, Lead, SizeofLead, lead}
+use Rattle.ck_grammar.specs.Trees.{Expr, Operands, Suffixes, Specifiers, Members, Declarators, Declarator, Dims, Params, MoreParams, Enumerators, Name, Constant, Strings, Paren, Suffixed, Prefixed, SizeofType, Cast, Chain, Choice, Assigned, NoOperands, Operand, NoSuffixes, Index, CallEmpty, Call, Access, Step, NoSpecifiers, TypedefName, Tagged, Struct, Enum, NoMembers, Member, NoDeclarators, Also, Abstract, Named, Nested, NoDims, Open, Sized, Function, NoParams, VoidParams, Parameters, NoMore, Ellipsis, More, LastOne, LastValued, One, Valued}
+use Rattle.ck_grammar.specs.Trees as trees
+use Rattle.ck_grammar.specs.Words.{Word, Lead, SizeofLead, lead}
 
 -- the expressions of operands and of suffixes, and more behind them
 abbrev pub of_operands : Operands → List Expr → List Expr

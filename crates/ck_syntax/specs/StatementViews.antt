@@ -1,8 +1,8 @@
 -- The plain trees that statements, the items of blocks and external declarations stand for. Memory is left out: `p`, `q`
 -- and `r` are a box's or a vector's own parts.
 use Rattle.std.specs.Prelude.{List, map, Option, None, Some}
-use Rattle.ck_syntax.specs.Trees.{Expr as PlainExpr}
-use Rattle.ck_syntax.specs.Statements as plain
+use Rattle.ck_grammar.specs.Trees.{Expr as PlainExpr}
+use Rattle.ck_grammar.specs.Statements as plain
 use Rattle.ck_syntax.specs.DeclarationViews.{declaration_tree, for_start_tree}
 use Rattle.ck_syntax.specs.ExpressionViews.{expr_tree, specifier_trees, declarator_tree}
 use Rattle.ck_syntax.specs.Rows.{in_front}

@@ -1,7 +1,7 @@
 -- What a list of references to expressions stands for, and what it grew by.
 use Rattle.std.specs.Prelude.{◌≡◌, List, ◌++◌, map}
 use Rattle.std.specs.Borrow.{Bor}
-use Rattle.ck_syntax.specs.Trees as plain
+use Rattle.ck_grammar.specs.Trees as plain
 use Rattle.ck_syntax.specs.ExpressionViews.{expr_tree}
 use Rattle.ck_syntax.specs.Parts.{subexpressions, in_operands, in_suffixes}
 use Rattle.ck_syntax.specs.declared.expressions.Expr.{Expr}

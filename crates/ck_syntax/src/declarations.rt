@@ -1,6 +1,6 @@
 //! Declarations, and what `for` begins with: the types, and a builder for each production.
 ghost use Rattle.std.specs.Prelude.{◌≡◌};
-ghost use Rattle.ck_syntax.specs.Statements as plain;
+ghost use Rattle.ck_grammar.specs.Statements as plain;
 ghost use Rattle.ck_syntax.specs.ExpressionViews.{expr_tree, declarator_tree, specifier_trees};
 ghost use Rattle.ck_syntax.specs.InitialiserViews.{init_tree};
 ghost use Rattle.ck_syntax.specs.DeclarationViews.{declared_before, declared_trees, declared_tree, declaration_tree, for_start_tree, initialised_before};

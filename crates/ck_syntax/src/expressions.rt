@@ -1,6 +1,6 @@
 //! Expressions: the types, and a builder for each production.
 ghost use Rattle.std.specs.Prelude.{◌≡◌, IfOk};
-ghost use Rattle.ck_syntax.specs.Trees as plain;
+ghost use Rattle.ck_grammar.specs.Trees as plain;
 ghost use Rattle.ck_syntax.specs.FirstTokens.{IsFirst};
 ghost use Rattle.ck_syntax.specs.ExpressionViews.{expr_tree, operand_before, operand_trees, suffix_before, suffix_trees, specifier_trees, declarator_tree};
 

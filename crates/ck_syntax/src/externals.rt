@@ -1,6 +1,6 @@
 //! External declarations and files: the types, and a builder for each production.
 ghost use Rattle.std.specs.Prelude.{◌≡◌, map};
-ghost use Rattle.ck_syntax.specs.Statements as plain;
+ghost use Rattle.ck_grammar.specs.Statements as plain;
 ghost use Rattle.ck_syntax.specs.ExpressionViews.{declarator_tree, specifier_trees};
 ghost use Rattle.ck_syntax.specs.DeclarationViews.{declaration_tree};
 ghost use Rattle.ck_syntax.specs.StatementViews.{item_trees, external_tree, unit_trees};

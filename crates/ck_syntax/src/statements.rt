@@ -1,6 +1,6 @@
 //! Statements and the items of blocks: the types, and a builder for each production.
 ghost use Rattle.std.specs.Prelude.{◌≡◌, IfOk};
-ghost use Rattle.ck_syntax.specs.Statements as plain;
+ghost use Rattle.ck_grammar.specs.Statements as plain;
 ghost use Rattle.ck_syntax.specs.ExpressionViews.{expr_tree};
 ghost use Rattle.ck_syntax.specs.DeclarationViews.{declaration_tree, for_start_tree};
 ghost use Rattle.ck_syntax.specs.StatementViews.{statement_tree, item_before, item_trees, expr_option};

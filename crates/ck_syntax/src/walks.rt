@@ -1,6 +1,6 @@
 //! Walks over expressions: the expressions right inside one, and all that are inside it.
 ghost use Rattle.std.specs.Prelude.{◌≡◌, [], ◌∷◌, ◌++◌, IfOk};
-ghost use Rattle.ck_syntax.specs.Trees as plain;
+ghost use Rattle.ck_grammar.specs.Trees as plain;
 ghost use Rattle.ck_syntax.specs.Parts as parts;
 ghost use Rattle.ck_syntax.specs.ExpressionViews.{expr_tree, operand_trees, suffix_before, suffix_trees};
 ghost use Rattle.ck_syntax.specs.Walks.{trees_of, Grew, in_parts};

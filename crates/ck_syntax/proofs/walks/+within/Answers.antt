@@ -1,7 +1,7 @@
 use Rattle.std.proofs.Common.{refl, ◌++◌, ap, sym, ◌∙◌}
 use Rattle.ck_syntax.specs.ExpressionViews.{expr_tree, operand_trees, suffix_before, suffix_trees}
 use Rattle.ck_syntax.specs.Parts.{subexpressions, in_operands, in_suffixes}
-use Rattle.ck_syntax.specs.Trees as plain
+use Rattle.ck_grammar.specs.Trees as plain
 use Rattle.ck_syntax.specs.Walks.{trees_of, in_parts}
 use Rattle.ck_syntax.proofs.Equations.{expr_tree-Name, expr_tree-Constant, expr_tree-Strings, expr_tree-Paren, expr_tree-Cast, expr_tree-Prefixed, expr_tree-SizeofType, expr_tree-Suffixed, expr_tree-Chain, expr_tree-Choice, expr_tree-Assigned, suffix_before-Index, suffix_before-CallEmpty, suffix_before-Call, suffix_before-Access, suffix_before-Step}
 use Rattle.ck_syntax.proofs.WalksGrown.{growing_step, growing_done, grew_last, grew_once, grew_twice, operands_within, operand_within, suffixes_within, suffix_within, in_suffixes-before}

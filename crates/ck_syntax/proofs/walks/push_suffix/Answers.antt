@@ -1,7 +1,7 @@
 use Rattle.std.proofs.Common.{ap, ◌++◌, ◌∷◌, sym, ◌∙◌}
 use Rattle.ck_syntax.specs.ExpressionViews.{expr_tree, operand_trees, suffix_before}
 use Rattle.ck_syntax.specs.Parts.{of_operands, of_suffixes}
-use Rattle.ck_syntax.specs.Trees as plain
+use Rattle.ck_grammar.specs.Trees as plain
 use Rattle.ck_syntax.specs.Walks.{trees_of}
 use Rattle.ck_syntax.proofs.Equations.{suffix_before-Index, suffix_before-CallEmpty, suffix_before-Call, suffix_before-Access, suffix_before-Step}
 use Rattle.ck_syntax.proofs.WalksGrown.{grew_last, grew_once, suffix_front}
