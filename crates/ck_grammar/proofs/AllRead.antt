@@ -17,7 +17,7 @@ use Rattle.ck_grammar.specs.Reading.{expr_at, specifiers_at, declarator_at, type
 use Rattle.ck_grammar.specs.ReadingTypes as types
 use Rattle.ck_grammar.specs.Spelling.{Spells, OneExpression, most}
 use Rattle.ck_grammar.specs.Specified.{Place, InType, InParameter}
-use Rattle.ck_grammar.specs.Trees.{Expr, Specifiers, Declarator, Name, Constant, Strings, Paren, Suffixed, Prefixed, SizeofType, Cast, Chain, Choice, Assigned}
+use Rattle.ck_grammar.specs.Trees.{Expr, Specifiers, Declarator, Name, Constant, Strings, Paren, Postfix, Unary, SizeofType, Cast, Chain, Conditional, Assignment}
 use Rattle.ck_grammar.specs.Words.{Word, Fixed, word_of}
 use Rattle.ck_grammar.specs.Written.{written, specifiers, declarator}
 
@@ -36,13 +36,13 @@ nests_once (Name t) h = omega (arith, h)
 nests_once (Constant t) h = omega (arith, h)
 nests_once (Strings t ts) h = omega (arith, h)
 nests_once (Paren o e c) h = omega (arith, h)
-nests_once (Suffixed e s) h = omega (arith, h)
-nests_once (Prefixed op e) h = omega (arith, h)
+nests_once (Postfix e s) h = omega (arith, h)
+nests_once (Unary op e) h = omega (arith, h)
 nests_once (SizeofType k o s d c) h = omega (arith, h)
 nests_once (Cast o s d c e) h = omega (arith, h)
 nests_once (Chain e ops) h = omega (arith, h)
-nests_once (Choice e q a c b) h = omega (arith, h)
-nests_once (Assigned e op b) h = omega (arith, h)
+nests_once (Conditional e q a c b) h = omega (arith, h)
+nests_once (Assignment e op b) h = omega (arith, h)
 
 -- what nests so deep is read
 pub record AllRead (w : Token → Word) (n : ℕ) : Type 0 where

@@ -1,7 +1,7 @@
 -- A tree before some tokens and more is written as it is before the first of them, and then the others.
 use Rattle.std.proofs.Common.{◌≡◌, List, [], ◌∷◌, ◌++◌, Option, Some, None, refl, ap}
 use Rattle.ck_base.specs.declared.tokens.Token.{Token}
-use Rattle.ck_grammar.specs.Trees.{Expr, Operands, Suffixes, Specifiers, Members, Declarators, Declarator, Dims, Params, MoreParams, Enumerators, Name, Constant, Strings, Paren, Suffixed, Prefixed, SizeofType, Cast, Chain, Choice, Assigned, NoOperands, Operand, NoSuffixes, Index, CallEmpty, Call, Access, Step, NoSpecifiers, Word, TypedefName, Tagged, Struct, Enum, NoMembers, Member, NoDeclarators, Also, Abstract, Named, Nested, NoDims, Open, Sized, Function, NoParams, VoidParams, Parameters, NoMore, Ellipsis, More, LastOne, LastValued, One, Valued}
+use Rattle.ck_grammar.specs.Trees.{Expr, Operands, Suffixes, Specifiers, Members, Declarators, Declarator, Dims, Params, MoreParams, Enumerators, Name, Constant, Strings, Paren, Postfix, Unary, SizeofType, Cast, Chain, Conditional, Assignment, NoOperands, Operand, NoSuffixes, Index, CallEmpty, Call, MemberAccess, PostIncrement, NoSpecifiers, Word, TypedefName, Tagged, Struct, Enum, NoMembers, Member, NoDeclarators, Also, Abstract, Named, Nested, NoDims, Open, Sized, Function, NoParams, VoidParams, Parameters, NoMore, Ellipsis, More, LastOne, LastValued, One, Valued}
 use Rattle.ck_grammar.specs.Written.{written, operands, suffixes, specifiers, members, declarators, declarator, dims, params, more_params, enumerators, optional}
 
 append_appended : (ts us more : List Token) → (ts ++ (us ++ more)) ≡ ((ts ++ us) ++ more)
@@ -18,13 +18,13 @@ mutual
   written_appended (Constant t) us more = refl
   written_appended (Strings t ts) us more = rw (append_appended ts us more) refl
   written_appended (Paren o e c) us more = rw (written_appended e (c ∷ us) more) refl
-  written_appended (Suffixed e s) us more = rw (suffixes_appended s us more, written_appended e (suffixes s us) more) refl
-  written_appended (Prefixed op e) us more = rw (written_appended e us more) refl
+  written_appended (Postfix e s) us more = rw (suffixes_appended s us more, written_appended e (suffixes s us) more) refl
+  written_appended (Unary op e) us more = rw (written_appended e us more) refl
   written_appended (SizeofType k o s d c) us more = rw (declarator_appended d (c ∷ us) more, specifiers_appended s (declarator d (c ∷ us)) more) refl
   written_appended (Cast o s d c e) us more = rw (written_appended e us more, declarator_appended d (c ∷ written e us) more, specifiers_appended s (declarator d (c ∷ written e us)) more) refl
   written_appended (Chain e ops) us more = rw (operands_appended ops us more, written_appended e (operands ops us) more) refl
-  written_appended (Choice e q a c b) us more = rw (written_appended b us more, written_appended a (c ∷ written b us) more, written_appended e (q ∷ written a (c ∷ written b us)) more) refl
-  written_appended (Assigned e op b) us more = rw (written_appended b us more, written_appended e (op ∷ written b us) more) refl
+  written_appended (Conditional e q a c b) us more = rw (written_appended b us more, written_appended a (c ∷ written b us) more, written_appended e (q ∷ written a (c ∷ written b us)) more) refl
+  written_appended (Assignment e op b) us more = rw (written_appended b us more, written_appended e (op ∷ written b us) more) refl
 
   pub operands_appended : (x : Operands) (us more : List Token) → operands x (us ++ more) ≡ (operands x us ++ more)
   operands_appended NoOperands us more = refl
@@ -35,8 +35,8 @@ mutual
   suffixes_appended (Index o e c rest) us more = rw (suffixes_appended rest us more, written_appended e (c ∷ suffixes rest us) more) refl
   suffixes_appended (CallEmpty o c rest) us more = rw (suffixes_appended rest us more) refl
   suffixes_appended (Call o e ops c rest) us more = rw (suffixes_appended rest us more, operands_appended ops (c ∷ suffixes rest us) more, written_appended e (operands ops (c ∷ suffixes rest us)) more) refl
-  suffixes_appended (Access t n rest) us more = rw (suffixes_appended rest us more) refl
-  suffixes_appended (Step t rest) us more = rw (suffixes_appended rest us more) refl
+  suffixes_appended (MemberAccess t n rest) us more = rw (suffixes_appended rest us more) refl
+  suffixes_appended (PostIncrement t rest) us more = rw (suffixes_appended rest us more) refl
 
   pub specifiers_appended : (x : Specifiers) (us more : List Token) → specifiers x (us ++ more) ≡ (specifiers x us ++ more)
   specifiers_appended NoSpecifiers us more = refl

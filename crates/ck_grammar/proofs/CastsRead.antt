@@ -12,7 +12,7 @@ use Rattle.ck_grammar.specs.Nesting.{nesting, specifiers_nesting, declarator_nes
 use Rattle.ck_grammar.specs.Readers.{Reader}
 use Rattle.ck_grammar.specs.ReadingExpressions.{unary, unary_by, prefixed, cast, opens_type}
 use Rattle.ck_grammar.specs.Specified.{InType, stand_together}
-use Rattle.ck_grammar.specs.Trees.{Expr, Specifiers, Declarator, Name, Constant, Strings, Paren, Suffixed, Prefixed, SizeofType, Cast, Chain, Choice, Assigned}
+use Rattle.ck_grammar.specs.Trees.{Expr, Specifiers, Declarator, Name, Constant, Strings, Paren, Postfix, Unary, SizeofType, Cast, Chain, Conditional, Assignment}
 use Rattle.ck_grammar.specs.Words.{Word, Fixed, Lead, NameLead, ConstantLead, StringLead, ParenLead, StepLead, OperatorLead, SizeofLead, NoLead, lead}
 use Rattle.ck_grammar.specs.Written.{written, specifiers, declarator}
 
@@ -43,8 +43,8 @@ unary_read w p ty n (Name t) more exact types opens one h nests stop = primary_r
 unary_read w p ty n (Constant t) more exact types opens one h nests stop = primary_read w p ty n (Constant t) more exact refl h nests (stops_strings w more stop) ∙ ap Some (nothing_behind w p n (Constant t) more stop)
 unary_read w p ty n (Strings t ts) more exact types opens one h nests stop = primary_read w p ty n (Strings t ts) more exact refl h nests (stops_strings w more stop) ∙ ap Some (nothing_behind w p n (Strings t ts) more stop)
 unary_read w p ty n (Paren o e c) more exact types opens one h nests stop = primary_read w p ty n (Paren o e c) more exact refl h nests (stops_strings w more stop) ∙ ap Some (nothing_behind w p n (Paren o e c) more stop)
-unary_read w p ty n (Suffixed e s) more exact types opens one h nests stop = suffixed_read w p ty n e s more exact h nests stop
-unary_read w p ty n (Prefixed op e) more exact types opens one h nests stop =
+unary_read w p ty n (Postfix e s) more exact types opens one h nests stop = suffixed_read w p ty n e s more exact h nests stop
+unary_read w p ty n (Unary op e) more exact types opens one h nests stop =
     let read : p 0 (written e more) ≡ Some (e, more) = exact 0 (omega arith) e more h.0 (omega (arith, nests)) (taken_is_tight w (lead (w op)) e h.1) stop in
     prefix_by w p ty n (lead (w op)) e op (written e more) h.1 (no_cast w e more h.0) ∙ rw (read, h.1) refl
 unary_read w p ty n (SizeofType k o s d c) more exact types opens one h nests stop =
@@ -53,8 +53,8 @@ unary_read w p ty n (SizeofType k o s d c) more exact types opens one h nests st
     rw (h.0, open_, h.1, read, h.3) refl
 unary_read w p ty n (Cast o s d c e) more exact types opens one h nests stop = absurd (false≢true one)
 unary_read w p ty n (Chain e ops) more exact types opens one h nests stop = absurd (false≢true one)
-unary_read w p ty n (Choice e q a c b) more exact types opens one h nests stop = absurd (false≢true one)
-unary_read w p ty n (Assigned e op b) more exact types opens one h nests stop = absurd (false≢true one)
+unary_read w p ty n (Conditional e q a c b) more exact types opens one h nests stop = absurd (false≢true one)
+unary_read w p ty n (Assignment e op b) more exact types opens one h nests stop = absurd (false≢true one)
 
 -- a unary expression is no cast
 uncast : (w : Token → Word) (p : ℕ → Reader Expr) (ty : Reader (Specifiers × Declarator)) (n : ℕ) (e : Expr) (more : List Token)
@@ -69,8 +69,8 @@ cast_read w p ty n (Name t) more exact types opens one h nests stop = uncast w p
 cast_read w p ty n (Constant t) more exact types opens one h nests stop = uncast w p ty n (Constant t) more exact types opens refl h nests stop
 cast_read w p ty n (Strings t ts) more exact types opens one h nests stop = uncast w p ty n (Strings t ts) more exact types opens refl h nests stop
 cast_read w p ty n (Paren o e c) more exact types opens one h nests stop = uncast w p ty n (Paren o e c) more exact types opens refl h nests stop
-cast_read w p ty n (Suffixed e s) more exact types opens one h nests stop = uncast w p ty n (Suffixed e s) more exact types opens refl h nests stop
-cast_read w p ty n (Prefixed op e) more exact types opens one h nests stop = uncast w p ty n (Prefixed op e) more exact types opens refl h nests stop
+cast_read w p ty n (Postfix e s) more exact types opens one h nests stop = uncast w p ty n (Postfix e s) more exact types opens refl h nests stop
+cast_read w p ty n (Unary op e) more exact types opens one h nests stop = uncast w p ty n (Unary op e) more exact types opens refl h nests stop
 cast_read w p ty n (SizeofType k o s d c) more exact types opens one h nests stop = uncast w p ty n (SizeofType k o s d c) more exact types opens refl h nests stop
 cast_read w p ty n (Cast o s d c e) more exact types opens one h nests stop =
     let open_ : opens_type w (o ∷ specifiers s (declarator d (c ∷ written e more))) ≡ true = opens o s (declarator d (c ∷ written e more)) h.0 h.1.0 h.1.1 in
@@ -78,5 +78,5 @@ cast_read w p ty n (Cast o s d c e) more exact types opens one h nests stop =
     let inner : p 0 (written e more) ≡ Some (e, more) = exact 0 (omega arith) e more h.3 (omega (arith, nests)) (omega (arith, h.4)) stop in
     rw (open_, h.0, read, h.2, inner) refl
 cast_read w p ty n (Chain e ops) more exact types opens one h nests stop = absurd (chain_not_tight _ h.0 one)
-cast_read w p ty n (Choice e q a c b) more exact types opens one h nests stop = absurd (omega (arith, one))
-cast_read w p ty n (Assigned e op b) more exact types opens one h nests stop = absurd (omega (arith, one))
+cast_read w p ty n (Conditional e q a c b) more exact types opens one h nests stop = absurd (omega (arith, one))
+cast_read w p ty n (Assignment e op b) more exact types opens one h nests stop = absurd (omega (arith, one))

@@ -13,7 +13,7 @@ use Rattle.ck_grammar.specs.Nesting.{nesting, operands_nesting, suffixes_nesting
 use Rattle.ck_grammar.specs.Readers.{Read, Reader, then_read, behind, onto}
 use Rattle.ck_grammar.specs.ReadingExpressions.{is_string, neighbours, primary_by, operand_then, operand_loop, begins_operand, access, call, suffix_by, suffix_loop, suffixed, postfix, opens_type, prefixed, in_parens, sizeof, unary_by, unary, cast, chained, choice, assigned, more_by, level_reader}
 use Rattle.ck_grammar.specs.Specified.{InType, stand_together}
-use Rattle.ck_grammar.specs.Trees.{Expr, Operands, Suffixes, Specifiers, Declarator, NoOperands, Operand, NoSuffixes, Index, CallEmpty, Call, Access, Step}
+use Rattle.ck_grammar.specs.Trees.{Expr, Operands, Suffixes, Specifiers, Declarator, NoOperands, Operand, NoSuffixes, Index, CallEmpty, Call, MemberAccess, PostIncrement}
 use Rattle.ck_grammar.specs.Words.{Word, Fixed, is_identifier, Lead, NameLead, ConstantLead, StringLead, ParenLead, StepLead, OperatorLead, SizeofLead, NoLead, lead, Follow, Bracket, Parenthesis, Point, Steps, Neighbour, Operator, Nothing, follow}
 use Rattle.ck_grammar.specs.Written.{written, operands, suffixes, specifiers, declarator}
 
@@ -159,8 +159,8 @@ suffixed_sound w n e ts r NoSuffixes r' is low are = record { tokens_are = rw (a
 suffixed_sound w n e ts r (Index o a c rest) r' is low are = record { tokens_are = ap (written e) are.tokens_are ∙ is.tokens_are; good = ((is.good.2, is.good.0, are.good.0, refl), omega (arith, low, are.good.1), refl) }
 suffixed_sound w n e ts r (CallEmpty o c rest) r' is low are = record { tokens_are = ap (written e) are.tokens_are ∙ is.tokens_are; good = ((is.good.2, is.good.0, are.good.0, refl), omega (arith, low, are.good.1), refl) }
 suffixed_sound w n e ts r (Call o a ops c rest) r' is low are = record { tokens_are = ap (written e) are.tokens_are ∙ is.tokens_are; good = ((is.good.2, is.good.0, are.good.0, refl), omega (arith, low, are.good.1), refl) }
-suffixed_sound w n e ts r (Access t m rest) r' is low are = record { tokens_are = ap (written e) are.tokens_are ∙ is.tokens_are; good = ((is.good.2, is.good.0, are.good.0, refl), omega (arith, low, are.good.1), refl) }
-suffixed_sound w n e ts r (Step t rest) r' is low are = record { tokens_are = ap (written e) are.tokens_are ∙ is.tokens_are; good = ((is.good.2, is.good.0, are.good.0, refl), omega (arith, low, are.good.1), refl) }
+suffixed_sound w n e ts r (MemberAccess t m rest) r' is low are = record { tokens_are = ap (written e) are.tokens_are ∙ is.tokens_are; good = ((is.good.2, is.good.0, are.good.0, refl), omega (arith, low, are.good.1), refl) }
+suffixed_sound w n e ts r (PostIncrement t rest) r' is low are = record { tokens_are = ap (written e) are.tokens_are ∙ is.tokens_are; good = ((is.good.2, is.good.0, are.good.0, refl), omega (arith, low, are.good.1), refl) }
 
 postfix_sound : (w : Token → Word) (p : ℕ → Reader Expr) (n : ℕ) (l : Lead) (t : Token) (ts : List Token)
     → LeadTells (w t) l → SoundExprs w n p → OnRead (IsUnary w (suc n) (t ∷ ts)) (postfix w p n (primary_by w p l t ts))

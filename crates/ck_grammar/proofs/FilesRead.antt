@@ -11,7 +11,7 @@ use Rattle.ck_grammar.specs.Reading.{specifiers_at, declarator_at}
 use Rattle.ck_grammar.specs.ReadingStatements.{declaration_at, statement_at, is_function, body_at, external_at, file_loop, file_at}
 use Rattle.ck_grammar.specs.Specified.{Place, InFile}
 use Rattle.ck_grammar.specs.Spelling.{most, SpellsDeclaration, SpellsStatement, SpellsExternal, SpellsFile, OneDeclaration, OneStatement, OneExternal, OneFile}
-use Rattle.ck_grammar.specs.Statements.{Declaration, Statement, External, Bare, Declares, Outside, Defines}
+use Rattle.ck_grammar.specs.Statements.{Declaration, Statement, External, Bare, Declares, FileDeclaration, FunctionDefinition}
 use Rattle.ck_grammar.specs.StatementsFitting.{FitsExternal, FitsFile, names_behind, is_typedef, shape, external_behind}
 use Rattle.ck_grammar.specs.StatementsNesting.{external_nesting, file_nesting}
 use Rattle.ck_grammar.specs.StatementsWritten.{declared, items, external, file}
@@ -21,10 +21,10 @@ use Rattle.ck_grammar.specs.Written.{specifiers, declarator}
 -- an external declaration is read, whatever stands behind it
 pub external_read : (bytes : List ℕ) (typedefs : List (List ℕ)) (n : ℕ) (x : External) (more : List Token)
     → FitsExternal bytes typedefs x → external_nesting x ≤ suc n → external_at bytes typedefs n (external x more) ≡ Some (x, more)
-external_read bytes typedefs n (Outside (Bare s semicolon)) more h nests =
+external_read bytes typedefs n (FileDeclaration (Bare s semicolon)) more h nests =
     let first : specifiers_at (word_of bytes typedefs) (suc n) InFile (specifiers s (semicolon ∷ more)) ≡ Some (s, semicolon ∷ more) = (all_read (word_of bytes typedefs) (suc n)).specs InFile s (semicolon ∷ more) h.0.0 h.0.1 nests (rw h.1 refl) in
     rw (first, h.1) refl
-external_read bytes typedefs n (Outside (Declares s d rest semicolon)) more h nests =
+external_read bytes typedefs n (FileDeclaration (Declares s d rest semicolon)) more h nests =
     let w = word_of bytes typedefs in
     let a = names_behind (is_typedef (word_of bytes typedefs) s) bytes d typedefs in
     let first : specifiers_at (word_of bytes typedefs) (suc n) InFile (specifiers s (declarator d (declared rest (semicolon ∷ more)))) ≡ Some (s, declarator d (declared rest (semicolon ∷ more))) =
@@ -38,7 +38,7 @@ external_read bytes typedefs n (Outside (Declares s d rest semicolon)) more h ne
       declared_no_body bytes a typedefs (is_typedef w s) rest semicolon more h.2 h.3,
       declares_read bytes typedefs (suc n) s d rest semicolon more h.2 (omega (arith, nests)) h.3,
     ) refl
-external_read bytes typedefs n (Defines s d o is c) more h nests =
+external_read bytes typedefs n (FunctionDefinition s d o is c) more h nests =
     let w = word_of bytes typedefs in
     let first : specifiers_at (word_of bytes typedefs) (suc n) InFile (specifiers s (declarator d (o ∷ items is (c ∷ more)))) ≡ Some (s, declarator d (o ∷ items is (c ∷ more))) =
     (all_read w (suc n)).specs InFile s (declarator d (o ∷ items is (c ∷ more))) h.0.0 h.0.1 (omega (arith, nests)) (new_name_ends w d (o ∷ items is (c ∷ more)) h.1.0) in

@@ -6,7 +6,7 @@ use Rattle.ck_grammar.specs.Fitting.{Fits, takes, is_tight, is_primary, is_unary
 use Rattle.ck_grammar.specs.ReadingExpressions.{begins_lead, begins_operand, opens_type, is_paren}
 use Rattle.ck_grammar.specs.Words.{Word, Ordinary, Typedef, Number, String, Fixed, Sort, Storage, Qualifier, Inline, TypeWord, StructWord, EnumWord, Plain, TypeName, Star, RoundMark, SquareMark, CurlyMark, CloseMark, Other, sort, sort_by, begins_type, begins_specifiers, Lead, NameLead, ConstantLead, StringLead, ParenLead, StepLead, OperatorLead, SizeofLead, NoLead, lead, lead_by}
 use Rattle.ck_grammar.specs.Written.{written, operands, suffixes, specifiers, declarator}
-use Rattle.ck_grammar.specs.Trees.{Expr, Name, Constant, Strings, Paren, Suffixed, Prefixed, SizeofType, Cast, Chain, Choice, Assigned}
+use Rattle.ck_grammar.specs.Trees.{Expr, Name, Constant, Strings, Paren, Postfix, Unary, SizeofType, Cast, Chain, Conditional, Assignment}
 
 takes_begins : (l : Lead) (e : Expr) (f : Expr → Bool) → takes l e f ≡ true → begins_lead l ≡ true
 takes_begins NameLead e f h = refl
@@ -34,13 +34,13 @@ begins w (Name t) more h = rw h refl
 begins w (Constant t) more h = rw h refl
 begins w (Strings t ts) more h = rw h.0 refl
 begins w (Paren o e c) more h = rw h.0 refl
-begins w (Suffixed e s) more h = begins w e (suffixes s more) h.1
-begins w (Prefixed op e) more h = takes_begins (lead (w op)) e (is_tight w) h.1
+begins w (Postfix e s) more h = begins w e (suffixes s more) h.1
+begins w (Unary op e) more h = takes_begins (lead (w op)) e (is_tight w) h.1
 begins w (SizeofType k o s d c) more h = rw h.0 refl
 begins w (Cast o s d c e) more h = rw h.0 refl
 begins w (Chain e ops) more h = begins w e (operands ops more) h.1
-begins w (Choice e q a c b) more h = begins w e _ h.0.0
-begins w (Assigned e op b) more h = begins w e _ h.0.0
+begins w (Conditional e q a c b) more h = begins w e _ h.0.0
+begins w (Assignment e op b) more h = begins w e _ h.0.0
 
 no_lead_by : (text : List ℕ) (b : Bool) → begins_specifiers (sort_by text) ≡ b → begins_lead (lead_by text) ≡ true → b ≡ false
 no_lead_by text true e h = absurd (false≢true (rw e at h))
@@ -90,13 +90,13 @@ primary_is_unary (Name t) h = refl
 primary_is_unary (Constant t) h = refl
 primary_is_unary (Strings t ts) h = refl
 primary_is_unary (Paren o e c) h = refl
-primary_is_unary (Suffixed e s) h = refl
-primary_is_unary (Prefixed op e) h = refl
+primary_is_unary (Postfix e s) h = refl
+primary_is_unary (Unary op e) h = refl
 primary_is_unary (SizeofType k o s d c) h = refl
 primary_is_unary (Cast o s d c e) h = h
 primary_is_unary (Chain e ops) h = h
-primary_is_unary (Choice e q a c b) h = h
-primary_is_unary (Assigned e op b) h = h
+primary_is_unary (Conditional e q a c b) h = h
+primary_is_unary (Assignment e op b) h = h
 
 -- a unary expression doesn't begin as a cast
 pub no_cast : (w : Token → Word) (e : Expr) (more : List Token) → Fits w e → is_unary e ≡ true → opens_type w (written e more) ≡ false
@@ -104,10 +104,10 @@ no_cast w (Name t) more h u = no_paren w t more (rw h refl)
 no_cast w (Constant t) more h u = no_paren w t more (rw h refl)
 no_cast w (Strings t ts) more h u = no_paren w t (ts ++ more) (rw h.0 refl)
 no_cast w (Paren o e c) more h u = operand_inside w o (written e (c ∷ more)) (begins w e (c ∷ more) h.1)
-no_cast w (Suffixed e s) more h u = no_cast w e (suffixes s more) h.1 (primary_is_unary e h.0)
-no_cast w (Prefixed op e) more h u = no_paren w op (written e more) (takes_no_paren (lead (w op)) e (is_tight w) h.1)
+no_cast w (Postfix e s) more h u = no_cast w e (suffixes s more) h.1 (primary_is_unary e h.0)
+no_cast w (Unary op e) more h u = no_paren w op (written e more) (takes_no_paren (lead (w op)) e (is_tight w) h.1)
 no_cast w (SizeofType k o s d c) more h u = no_paren w k (o ∷ specifiers s (declarator d (c ∷ more))) (rw h.0 refl)
 no_cast w (Cast o s d c e) more h u = absurd (false≢true u)
 no_cast w (Chain e ops) more h u = absurd (false≢true u)
-no_cast w (Choice e q a c b) more h u = absurd (false≢true u)
-no_cast w (Assigned e op b) more h u = absurd (false≢true u)
+no_cast w (Conditional e q a c b) more h u = absurd (false≢true u)
+no_cast w (Assignment e op b) more h u = absurd (false≢true u)

@@ -8,7 +8,7 @@ use Rattle.ck_grammar.specs.Fitting.{Fits, FitsOperands, FitsSuffixes, FitsEach,
 use Rattle.ck_grammar.specs.ReadingStatements.{comes, is_label}
 use Rattle.ck_grammar.specs.Specified.{Place, stand_together, is_text}
 use Rattle.ck_grammar.specs.Trees as trees
-use Rattle.ck_grammar.specs.Trees.{Expr, Operands, Suffixes, Specifiers, Declarator, Name, Constant, Strings, Paren, Suffixed, Prefixed, SizeofType, Cast, Chain, Choice, Assigned, NoOperands, Operand, NoSuffixes, Index, CallEmpty, Call, Access, Step, NoSpecifiers, TypedefName, Tagged, Struct, Enum, Abstract, Named, Nested}
+use Rattle.ck_grammar.specs.Trees.{Expr, Operands, Suffixes, Specifiers, Declarator, Name, Constant, Strings, Paren, Postfix, Unary, SizeofType, Cast, Chain, Conditional, Assignment, NoOperands, Operand, NoSuffixes, Index, CallEmpty, Call, MemberAccess, PostIncrement, NoSpecifiers, TypedefName, Tagged, Struct, Enum, Abstract, Named, Nested}
 use Rattle.ck_grammar.specs.Words.{Word, Ordinary, Typedef, Number, String, Fixed, is_identifier, sort, Follow, Nothing, follow, lead}
 use Rattle.ck_grammar.specs.Written.{written, operands, suffixes, specifiers}
 
@@ -29,8 +29,8 @@ suffixes_no_colon w NoSuffixes more h none = none
 suffixes_no_colon w (Index o e c rest) more h none = rw h.0 refl
 suffixes_no_colon w (CallEmpty o c rest) more h none = rw h.0 refl
 suffixes_no_colon w (Call o e ops c rest) more h none = rw h.0 refl
-suffixes_no_colon w (Access t n rest) more h none = no_colon (w t) (rw h.0 refl)
-suffixes_no_colon w (Step t rest) more h none = no_colon (w t) (rw h.0 refl)
+suffixes_no_colon w (MemberAccess t n rest) more h none = no_colon (w t) (rw h.0 refl)
+suffixes_no_colon w (PostIncrement t rest) more h none = no_colon (w t) (rw h.0 refl)
 
 takes_no_name : (word : Word) (e : Expr) (f : Expr → Bool) → takes (lead word) e f ≡ true → is_identifier word ≡ false
 takes_no_name Ordinary e f h = absurd (false≢true h)
@@ -45,13 +45,13 @@ expression_no_label w (Name t) more h none = rw h none
 expression_no_label w (Constant t) more h none = rw h refl
 expression_no_label w (Strings t ts) more h none = rw h.0 refl
 expression_no_label w (Paren o e c) more h none = rw h.0 refl
-expression_no_label w (Suffixed e s) more h none = expression_no_label w e (suffixes s more) h.1 (suffixes_no_colon w s more h.2 none)
-expression_no_label w (Prefixed op e) more h none = rw (takes_no_name (w op) e (is_tight w) h.1) refl
+expression_no_label w (Postfix e s) more h none = expression_no_label w e (suffixes s more) h.1 (suffixes_no_colon w s more h.2 none)
+expression_no_label w (Unary op e) more h none = rw (takes_no_name (w op) e (is_tight w) h.1) refl
 expression_no_label w (SizeofType k o s d c) more h none = rw h.0 refl
 expression_no_label w (Cast o s d c e) more h none = rw h.0 refl
 expression_no_label w (Chain e ops) more h none = expression_no_label w e (operands ops more) h.1 (operands_no_colon w _ ops more h.3 none)
-expression_no_label w (Choice e q a c b) more h none = expression_no_label w e _ h.0.0 (rw h.1 refl)
-expression_no_label w (Assigned e op b) more h none = expression_no_label w e (op ∷ written b more) h.0.0 (no_colon (w op) (rw h.1 refl))
+expression_no_label w (Conditional e q a c b) more h none = expression_no_label w e _ h.0.0 (rw h.1 refl)
+expression_no_label w (Assignment e op b) more h none = expression_no_label w e (op ∷ written b more) h.0.0 (no_colon (w op) (rw h.1 refl))
 
 -- keywords among specifiers are no names and no colons
 word_no_name : (word : Word) → is_specifier_word (sort word) ≡ true → is_identifier word ≡ false

@@ -2,7 +2,7 @@
 use Rattle.std.proofs.Common.{◌≤◌, List, [], ◌∷◌, ◌++◌, length, Option, Some, None, arith}
 use Rattle.ck_base.specs.declared.tokens.Token.{Token}
 use Rattle.ck_grammar.specs.Written.{written, operands, suffixes, specifiers, members, declarators, declarator, dims, params, more_params, enumerators, optional}
-use Rattle.ck_grammar.specs.Trees.{Expr, Operands, Suffixes, Specifiers, Members, Declarators, Declarator, Dims, Params, MoreParams, Enumerators, Name, Constant, Strings, Paren, Suffixed, Prefixed, SizeofType, Cast, Chain, Choice, Assigned, NoOperands, Operand, NoSuffixes, Index, CallEmpty, Call, Access, Step, NoSpecifiers, Word, TypedefName, Tagged, Struct, Enum, NoMembers, Member, NoDeclarators, Also, Abstract, Named, Nested, NoDims, Open, Sized, Function, NoParams, VoidParams, Parameters, NoMore, Ellipsis, More, LastOne, LastValued, One, Valued}
+use Rattle.ck_grammar.specs.Trees.{Expr, Operands, Suffixes, Specifiers, Members, Declarators, Declarator, Dims, Params, MoreParams, Enumerators, Name, Constant, Strings, Paren, Postfix, Unary, SizeofType, Cast, Chain, Conditional, Assignment, NoOperands, Operand, NoSuffixes, Index, CallEmpty, Call, MemberAccess, PostIncrement, NoSpecifiers, Word, TypedefName, Tagged, Struct, Enum, NoMembers, Member, NoDeclarators, Also, Abstract, Named, Nested, NoDims, Open, Sized, Function, NoParams, VoidParams, Parameters, NoMore, Ellipsis, More, LastOne, LastValued, One, Valued}
 
 pub longer_append : (ts more : List Token) → length more ≤ length (ts ++ more)
 longer_append [] more = omega arith
@@ -18,13 +18,13 @@ mutual
   longer (Constant t) more = omega arith
   longer (Strings t ts) more = omega (arith, longer_append ts more)
   longer (Paren o e c) more = omega (arith, longer e (c ∷ more))
-  longer (Suffixed e s) more = omega (arith, longer e (suffixes s more), longer_suffixes s more)
-  longer (Prefixed op e) more = omega (arith, longer e more)
+  longer (Postfix e s) more = omega (arith, longer e (suffixes s more), longer_suffixes s more)
+  longer (Unary op e) more = omega (arith, longer e more)
   longer (SizeofType k o s d c) more = omega (arith, longer_specifiers s (declarator d (c ∷ more)), longer_declarator d (c ∷ more))
   longer (Cast o s d c e) more = omega (arith, longer_specifiers s (declarator d (c ∷ written e more)), longer_declarator d (c ∷ written e more), longer e more)
   longer (Chain e ops) more = omega (arith, longer e (operands ops more), longer_operands ops more)
-  longer (Choice e q a c b) more = omega (arith, longer e (q ∷ written a (c ∷ written b more)), longer a (c ∷ written b more), longer b more)
-  longer (Assigned e op b) more = omega (arith, longer e (op ∷ written b more), longer b more)
+  longer (Conditional e q a c b) more = omega (arith, longer e (q ∷ written a (c ∷ written b more)), longer a (c ∷ written b more), longer b more)
+  longer (Assignment e op b) more = omega (arith, longer e (op ∷ written b more), longer b more)
 
   pub longer_operands : (ops : Operands) (more : List Token) → length more ≤ length (operands ops more)
   longer_operands NoOperands more = omega arith
@@ -35,8 +35,8 @@ mutual
   longer_suffixes (Index o e c rest) more = omega (arith, longer e (c ∷ suffixes rest more), longer_suffixes rest more)
   longer_suffixes (CallEmpty o c rest) more = omega (arith, longer_suffixes rest more)
   longer_suffixes (Call o e ops c rest) more = omega (arith, longer e (operands ops (c ∷ suffixes rest more)), longer_operands ops (c ∷ suffixes rest more), longer_suffixes rest more)
-  longer_suffixes (Access t n rest) more = omega (arith, longer_suffixes rest more)
-  longer_suffixes (Step t rest) more = omega (arith, longer_suffixes rest more)
+  longer_suffixes (MemberAccess t n rest) more = omega (arith, longer_suffixes rest more)
+  longer_suffixes (PostIncrement t rest) more = omega (arith, longer_suffixes rest more)
 
   pub longer_specifiers : (s : Specifiers) (more : List Token) → length more ≤ length (specifiers s more)
   longer_specifiers NoSpecifiers more = omega arith

@@ -5,7 +5,7 @@ use Rattle.std.proofs.lemmas.Bool.Decides.{nat_tests}
 use Rattle.ck_base.specs.declared.tokens.Token.{Token}
 use Rattle.ck_grammar.proofs.Stops.{differ}
 use Rattle.ck_grammar.specs.Fitting.{Fits, is_chain_level, chain_level, looseness, is_unary, takes, is_tight}
-use Rattle.ck_grammar.specs.Trees.{Expr, Operands, NoOperands, Operand, Name, Constant, Strings, Paren, Suffixed, Prefixed, SizeofType, Cast, Chain, Choice, Assigned}
+use Rattle.ck_grammar.specs.Trees.{Expr, Operands, NoOperands, Operand, Name, Constant, Strings, Paren, Postfix, Unary, SizeofType, Cast, Chain, Conditional, Assignment}
 use Rattle.ck_grammar.specs.ReadingExpressions.{has_operand}
 use Rattle.ck_grammar.specs.Words.{Word, Lead, NameLead, ConstantLead, StringLead, ParenLead, StepLead, OperatorLead, SizeofLead, NoLead}
 
@@ -17,13 +17,13 @@ loosest w (Name t) h = omega arith
 loosest w (Constant t) h = omega arith
 loosest w (Strings t ts) h = omega arith
 loosest w (Paren o e c) h = omega arith
-loosest w (Suffixed e s) h = omega arith
-loosest w (Prefixed op e) h = omega arith
+loosest w (Postfix e s) h = omega arith
+loosest w (Unary op e) h = omega arith
 loosest w (SizeofType k o s d c) h = omega arith
 loosest w (Cast o s d c e) h = omega arith
 loosest w (Chain e ops) h = chain_bound (chain_level w ops) h.0
-loosest w (Choice e q a c b) h = omega arith
-loosest w (Assigned e op b) h = omega arith
+loosest w (Conditional e q a c b) h = omega arith
+loosest w (Assignment e op b) h = omega arith
 
 -- which levels are no chains
 pub no_choice : (j : ℕ) → is_chain_level (suc j) ≡ true → nat_eq j 10 ≡ false
@@ -44,13 +44,13 @@ unary_is_tight w (Name t) h = omega arith
 unary_is_tight w (Constant t) h = omega arith
 unary_is_tight w (Strings t ts) h = omega arith
 unary_is_tight w (Paren o e c) h = omega arith
-unary_is_tight w (Suffixed e s) h = omega arith
-unary_is_tight w (Prefixed op e) h = omega arith
+unary_is_tight w (Postfix e s) h = omega arith
+unary_is_tight w (Unary op e) h = omega arith
 unary_is_tight w (SizeofType k o s d c) h = omega arith
 unary_is_tight w (Cast o s d c e) h = omega arith
 unary_is_tight w (Chain e ops) h = absurd (false≢true h)
-unary_is_tight w (Choice e q a c b) h = absurd (false≢true h)
-unary_is_tight w (Assigned e op b) h = absurd (false≢true h)
+unary_is_tight w (Conditional e q a c b) h = absurd (false≢true h)
+unary_is_tight w (Assignment e op b) h = absurd (false≢true h)
 
 tight : (a : ℕ) → nat_eq a 0 ≡ true → a ≤ 0
 tight a h = grind (arith, nat_tests)

@@ -11,7 +11,7 @@ use Rattle.ck_grammar.specs.Fitting.{Fits, FitsOperands, chain_level, looseness}
 use Rattle.ck_grammar.specs.Nesting.{nesting}
 use Rattle.ck_grammar.specs.Readers.{Reader}
 use Rattle.ck_grammar.specs.ReadingExpressions.{operand_loop, choice, assigned, more, level_reader}
-use Rattle.ck_grammar.specs.Trees.{Expr, Specifiers, Declarator, Name, Constant, Strings, Paren, Suffixed, Prefixed, SizeofType, Cast, Chain, Choice, Assigned}
+use Rattle.ck_grammar.specs.Trees.{Expr, Specifiers, Declarator, Name, Constant, Strings, Paren, Postfix, Unary, SizeofType, Cast, Chain, Conditional, Assignment}
 use Rattle.ck_grammar.specs.Words.{Word, follow}
 use Rattle.ck_grammar.specs.Written.{written, operands}
 
@@ -51,8 +51,8 @@ same_level w p ty n j (Name t) ts exact below bound low high h nests stop = absu
 same_level w p ty n j (Constant t) ts exact below bound low high h nests stop = absurd (omega (arith, low))
 same_level w p ty n j (Strings t us) ts exact below bound low high h nests stop = absurd (omega (arith, low))
 same_level w p ty n j (Paren o e c) ts exact below bound low high h nests stop = absurd (omega (arith, low))
-same_level w p ty n j (Suffixed e s) ts exact below bound low high h nests stop = absurd (omega (arith, low))
-same_level w p ty n j (Prefixed op e) ts exact below bound low high h nests stop = absurd (omega (arith, low))
+same_level w p ty n j (Postfix e s) ts exact below bound low high h nests stop = absurd (omega (arith, low))
+same_level w p ty n j (Unary op e) ts exact below bound low high h nests stop = absurd (omega (arith, low))
 same_level w p ty n j (SizeofType k o s d c) ts exact below bound low high h nests stop = absurd (omega (arith, low))
 same_level w p ty n j (Cast o s d c e) ts exact below bound low high h nests stop = absurd (omega (arith, low))
 same_level w p ty n j (Chain e ops) ts exact below bound low high h nests stop =
@@ -63,7 +63,7 @@ same_level w p ty n j (Chain e ops) ts exact below bound low high h nests stop =
     let shallow : nat_le (nesting e) n ≡ true = le-leb (nesting e) n (omega (arith, nests)) in
     let all : operand_loop w (p j) (suc j) (length (operands ops ts)) (operands ops ts) ≡ (ops, ts) = operands_read w (p j) n j ops ts (length (operands ops ts)) (exact j (omega (arith, bound))) fits (omega (arith, nests)) stop (omega arith) in
     rw (first, shallow, no_choice j chains, no_assignment j chains, all, chain_has_operand w ops h.0) refl
-same_level w p ty n j (Choice e q a c b) ts exact below bound low high h nests stop =
+same_level w p ty n j (Conditional e q a c b) ts exact below bound low high h nests stop =
     let ten : j ≡ 10 = omega (arith, low, high) in
     let ten' : nat_eq j 10 ≡ true = rw ten (same 10) in
     let first : level_reader w p ty n j (written e (q ∷ written a (c ∷ written b ts))) ≡ Some (e, q ∷ written a (c ∷ written b ts)) = below e (q ∷ written a (c ∷ written b ts)) h.0.0 (omega (arith, nests)) (omega (arith, h.0.1, ten)) (rw ten (at_question w q (written a (c ∷ written b ts)) h.1)) in
@@ -71,7 +71,7 @@ same_level w p ty n j (Choice e q a c b) ts exact below bound low high h nests s
     let middle : p 13 (written a (c ∷ written b ts)) ≡ Some (a, c ∷ written b ts) = exact 13 (omega arith) a (c ∷ written b ts) h.2 (omega (arith, nests)) (loosest w a h.2) (at_colon w c (written b ts) 13 (omega arith) h.3) in
     let last : p 11 (written b ts) ≡ Some (b, ts) = exact 11 (omega arith) b ts h.4.0 (omega (arith, nests)) h.4.1 (stops_below w 11 (suc j) ts (omega (arith, ten)) stop) in
     rw (first, shallow, ten', h.1, middle, h.3, last) refl
-same_level w p ty n j (Assigned e op b) ts exact below bound low high h nests stop =
+same_level w p ty n j (Assignment e op b) ts exact below bound low high h nests stop =
     let eleven : j ≡ 11 = omega (arith, low, high) in
     let not_ten : nat_eq j 10 ≡ false = rw eleven refl in
     let eleven' : nat_eq j 11 ≡ true = rw eleven (same 11) in

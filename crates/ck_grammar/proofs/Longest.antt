@@ -17,7 +17,7 @@ use Rattle.ck_grammar.specs.Fitting.{Fits, FitsOperands, FitsSuffixes, AreString
 use Rattle.ck_grammar.specs.Nesting.{nesting, operands_nesting, suffixes_nesting}
 use Rattle.ck_grammar.specs.Readers.{Read, Reader, then_read, or_else}
 use Rattle.ck_grammar.specs.ReadingExpressions.{neighbours, operand_then, operand_loop, suffix_loop, suffixed, postfix_behind, begins_operand, opens_type, unary, cast, has_operand, chained, choice, assigned, more, more_by, level_reader}
-use Rattle.ck_grammar.specs.Trees.{Expr, Operands, Suffixes, Specifiers, Declarator, Name, Constant, Strings, Paren, Suffixed, Prefixed, SizeofType, Cast, Chain, Choice, Assigned, NoOperands, Operand, NoSuffixes, Index, CallEmpty, Call, Access, Step}
+use Rattle.ck_grammar.specs.Trees.{Expr, Operands, Suffixes, Specifiers, Declarator, Name, Constant, Strings, Paren, Postfix, Unary, SizeofType, Cast, Chain, Conditional, Assignment, NoOperands, Operand, NoSuffixes, Index, CallEmpty, Call, MemberAccess, PostIncrement}
 use Rattle.ck_grammar.specs.Words.{Word, Lead, NameLead, ConstantLead, StringLead, ParenLead, StepLead, OperatorLead, SizeofLead, NoLead, lead, follow}
 use Rattle.ck_grammar.specs.Written.{written, operands, suffixes, specifiers, declarator}
 
@@ -48,7 +48,7 @@ operand_loop_keeps w p n j f ts le sound =
     omega (arith, ap length (operand_loop_sound w (p j) n j f (sound j le) ts).tokens_are, longer_operands (operand_loop w (p j) (suc j) f ts).0 (operand_loop w (p j) (suc j) f ts).1)
 
 suffixed_rest : (e : Expr) (x : Suffixes × List Token) → (suffixed e x).1 ≡ x.1
-suffixed_rest e x = by_if {A = Expr × List Token} (λ y. y.1 ≡ x.1) (has_suffix x.0) (Suffixed e x.0, x.1) (e, x.1) (λ _. refl) (λ _. refl)
+suffixed_rest e x = by_if {A = Expr × List Token} (λ y. y.1 ≡ x.1) (has_suffix x.0) (Postfix e x.0, x.1) (e, x.1) (λ _. refl) (λ _. refl)
 
 chained_rest : (e : Expr) (x : Operands × List Token) → (chained e x).1 ≡ x.1
 chained_rest e x = by_if {A = Expr × List Token} (λ y. y.1 ≡ x.1) (has_operand x.0) (Chain e x.0, x.1) (e, x.1) (λ _. refl) (λ _. refl)
@@ -78,10 +78,10 @@ suffixes_reach w p n (Call o e ops c rest) more (suc f) exact sound h nests fuel
     let read : p 12 (written e (operands ops (c ∷ suffixes rest more))) ≡ Some (e, operands ops (c ∷ suffixes rest more)) = exact 12 (omega arith) e (operands ops (c ∷ suffixes rest more)) h.1.0 (omega (arith, nests)) (omega (arith, h.1.1)) (operands_stop w 12 ops (c ∷ suffixes rest more) h.1.2 stop13) in
     let all : operand_loop w (p 12) 13 (length (operands ops (c ∷ suffixes rest more))) (operands ops (c ∷ suffixes rest more)) ≡ (ops, c ∷ suffixes rest more) = operands_read w (p 12) n 12 ops (c ∷ suffixes rest more) (length (operands ops (c ∷ suffixes rest more))) (exact 12 (omega arith)) h.1.2 (omega (arith, nests)) stop13 (omega arith) in
     rw (h.0, head, read, all, h.2) (suffixes_reach w p n rest more f exact sound h.3 (omega (arith, nests)) (omega (arith, fuel, longer e (operands ops (c ∷ suffixes rest more)), longer_operands ops (c ∷ suffixes rest more))))
-suffixes_reach w p n (Access t m rest) more zero exact sound h nests fuel = absurd (omega (arith, fuel))
-suffixes_reach w p n (Access t m rest) more (suc f) exact sound h nests fuel = rw (h.0, h.1) (suffixes_reach w p n rest more f exact sound h.2 nests (omega (arith, fuel)))
-suffixes_reach w p n (Step t rest) more zero exact sound h nests fuel = absurd (omega (arith, fuel))
-suffixes_reach w p n (Step t rest) more (suc f) exact sound h nests fuel = rw h.0 (suffixes_reach w p n rest more f exact sound h.1 nests (omega (arith, fuel)))
+suffixes_reach w p n (MemberAccess t m rest) more zero exact sound h nests fuel = absurd (omega (arith, fuel))
+suffixes_reach w p n (MemberAccess t m rest) more (suc f) exact sound h nests fuel = rw (h.0, h.1) (suffixes_reach w p n rest more f exact sound h.2 nests (omega (arith, fuel)))
+suffixes_reach w p n (PostIncrement t rest) more zero exact sound h nests fuel = absurd (omega (arith, fuel))
+suffixes_reach w p n (PostIncrement t rest) more (suc f) exact sound h nests fuel = rw h.0 (suffixes_reach w p n rest more f exact sound h.1 nests (omega (arith, fuel)))
 
 -- a suffix is no string literal
 suffix_first : (w : Token → Word) (s : Suffixes) (more : List Token) → FitsSuffixes w s → has_suffix s ≡ true → StopsStrings w (suffixes s more)
@@ -89,8 +89,8 @@ suffix_first w NoSuffixes more h one = absurd (false≢true one)
 suffix_first w (Index o e c rest) more h one = rw h.0 refl
 suffix_first w (CallEmpty o c rest) more h one = rw h.0 refl
 suffix_first w (Call o e ops c rest) more h one = rw h.0 refl
-suffix_first w (Access t m rest) more h one = no_string (w t) (rw h.0 refl)
-suffix_first w (Step t rest) more h one = no_string (w t) (rw h.0 refl)
+suffix_first w (MemberAccess t m rest) more h one = no_string (w t) (rw h.0 refl)
+suffix_first w (PostIncrement t rest) more h one = no_string (w t) (rw h.0 refl)
 
 -- a prefix takes what else is as tight
 takes_too : (w : Token → Word) (l : Lead) (e f : Expr) → takes l e (is_tight w) ≡ true → looseness w f ≤ 0 → (is_unary e ≡ true → is_unary f ≡ true) → takes l f (is_tight w) ≡ true
@@ -113,13 +113,13 @@ tight_reads w p n e more None is one = tt
 tight_reads w p n e more (Some x) is one = (is.good.2, one)
 
 prefixed_reach : (w : Token → Word) (p : ℕ → Reader Expr) (ty : Reader (Specifiers × Declarator)) (n : ℕ) (op : Token) (e : Expr) (more : List Token)
-    → SoundExprs w n p → ReachesExprs w n p → UnaryReads w p → Fits w (Prefixed op e) → nesting e ≤ n → Reaches (length more) (unary w p ty n (op ∷ written e more))
+    → SoundExprs w n p → ReachesExprs w n p → UnaryReads w p → Fits w (Unary op e) → nesting e ≤ n → Reaches (length more) (unary w p ty n (op ∷ written e more))
 prefixed_reach w p ty n op e more sound reach one h nests =
     rw (prefix_by w p ty n (lead (w op)) e op (written e more) h.1 (no_cast w e more h.0))
     (reach_then (length more) (length more) (λ f r. (looseness w f ≤ 0) × (is_unary e ≡ true → is_unary f ≡ true)) (p 0 (written e more)) _
     (tight_reads w p n e more (p 0 (written e more)) (sound 0 (omega arith) (written e more)) (λ u. one (written e more) (no_cast w e more h.0 u)))
     (reach 0 (omega arith) e more h.0 nests (taken_is_tight w (lead (w op)) e h.1))
-    (λ f r is le. if_reached (takes (lead (w op)) f (is_tight w)) (Prefixed op f) r (length more) (takes_too w (lead (w op)) e f h.1 is.0 is.1) le))
+    (λ f r is le. if_reached (takes (lead (w op)) f (is_tight w)) (Unary op f) r (length more) (takes_too w (lead (w op)) e f h.1 is.0 is.1) le))
 
 unary_reach : (w : Token → Word) (p : ℕ → Reader Expr) (ty : Reader (Specifiers × Declarator)) (n : ℕ) (e : Expr) (more : List Token)
     → Exact w n p → SoundExprs w n p → ReachesExprs w n p → UnaryReads w p → ReadsTypes w n ty → OpensTypes w → is_unary e ≡ true → Fits w e → nesting e ≤ suc n
@@ -131,19 +131,19 @@ unary_reach w p ty n (Strings t ts) more exact sound reach one types opens u h n
 unary_reach w p ty n (Paren o e c) more exact sound reach one types opens u h nests =
     let read : p 13 (written e (c ∷ more)) ≡ Some (e, c ∷ more) = exact 13 (omega arith) e (c ∷ more) h.1 (omega (arith, nests)) (loosest w e h.1) (at_round w c more 13 (omega arith) h.2) in
     rw (h.0, read, h.2) (postfix_keeps w p n (Paren o e c) more sound)
-unary_reach w p ty n (Suffixed e s) more exact sound reach one types opens u h nests =
+unary_reach w p ty n (Postfix e s) more exact sound reach one types opens u h nests =
     let first : unary w p ty n (written e (suffixes s more)) ≡ Some (postfix_behind w p n e (suffixes s more)) = primary_read w p ty n e (suffixes s more) exact h.0 h.1 (omega (arith, nests)) (suffix_first w s more h.2 h.3) in
     let shallow : nat_le (nesting e) n ≡ true = le-leb (nesting e) n (omega (arith, nests)) in
     rw (first, shallow, suffixed_rest e (suffix_loop w p (length (suffixes s more)) (suffixes s more))) (suffixes_reach w p n s more (length (suffixes s more)) exact sound h.2 (omega (arith, nests)) (omega arith))
-unary_reach w p ty n (Prefixed op e) more exact sound reach one types opens u h nests = prefixed_reach w p ty n op e more sound reach one h (omega (arith, nests))
+unary_reach w p ty n (Unary op e) more exact sound reach one types opens u h nests = prefixed_reach w p ty n op e more sound reach one h (omega (arith, nests))
 unary_reach w p ty n (SizeofType k o s d c) more exact sound reach one types opens u h nests =
     let open_ : opens_type w (o ∷ specifiers s (declarator d (c ∷ more))) ≡ true = opens o s (declarator d (c ∷ more)) h.1 h.2.0 h.2.1 in
     let read : ty (specifiers s (declarator d (c ∷ more))) ≡ Some ((s, d), c ∷ more) = types s d c more h.2.0 h.2.1 h.2.2 (omega (arith, nests)) (omega (arith, nests)) h.3 in
     rw (h.0, open_, h.1, read, h.3) (omega arith)
 unary_reach w p ty n (Cast o s d c e) more exact sound reach one types opens u h nests = absurd (false≢true u)
 unary_reach w p ty n (Chain e ops) more exact sound reach one types opens u h nests = absurd (false≢true u)
-unary_reach w p ty n (Choice e q a c b) more exact sound reach one types opens u h nests = absurd (false≢true u)
-unary_reach w p ty n (Assigned e op b) more exact sound reach one types opens u h nests = absurd (false≢true u)
+unary_reach w p ty n (Conditional e q a c b) more exact sound reach one types opens u h nests = absurd (false≢true u)
+unary_reach w p ty n (Assignment e op b) more exact sound reach one types opens u h nests = absurd (false≢true u)
 
 -- a unary expression is no cast
 uncast_reach : (w : Token → Word) (p : ℕ → Reader Expr) (ty : Reader (Specifiers × Declarator)) (n : ℕ) (e : Expr) (more : List Token)
@@ -158,8 +158,8 @@ cast_reach w p ty n (Name t) more exact sound reach one types opens low h nests 
 cast_reach w p ty n (Constant t) more exact sound reach one types opens low h nests = uncast_reach w p ty n (Constant t) more exact sound reach one types opens refl h nests
 cast_reach w p ty n (Strings t ts) more exact sound reach one types opens low h nests = uncast_reach w p ty n (Strings t ts) more exact sound reach one types opens refl h nests
 cast_reach w p ty n (Paren o e c) more exact sound reach one types opens low h nests = uncast_reach w p ty n (Paren o e c) more exact sound reach one types opens refl h nests
-cast_reach w p ty n (Suffixed e s) more exact sound reach one types opens low h nests = uncast_reach w p ty n (Suffixed e s) more exact sound reach one types opens refl h nests
-cast_reach w p ty n (Prefixed op e) more exact sound reach one types opens low h nests = uncast_reach w p ty n (Prefixed op e) more exact sound reach one types opens refl h nests
+cast_reach w p ty n (Postfix e s) more exact sound reach one types opens low h nests = uncast_reach w p ty n (Postfix e s) more exact sound reach one types opens refl h nests
+cast_reach w p ty n (Unary op e) more exact sound reach one types opens low h nests = uncast_reach w p ty n (Unary op e) more exact sound reach one types opens refl h nests
 cast_reach w p ty n (SizeofType k o s d c) more exact sound reach one types opens low h nests = uncast_reach w p ty n (SizeofType k o s d c) more exact sound reach one types opens refl h nests
 cast_reach w p ty n (Cast o s d c e) more exact sound reach one types opens low h nests =
     let open_ : opens_type w (o ∷ specifiers s (declarator d (c ∷ written e more))) ≡ true = opens o s (declarator d (c ∷ written e more)) h.0 h.1.0 h.1.1 in
@@ -167,8 +167,8 @@ cast_reach w p ty n (Cast o s d c e) more exact sound reach one types opens low 
     rw (open_, h.0, read, h.2)
     (reach_then (length more) (length more) (IsExpr w n 0 (written e more)) (p 0 (written e more)) _ (sound 0 (omega arith) (written e more)) (reach 0 (omega arith) e more h.3 (omega (arith, nests)) (omega (arith, h.4))) (λ f r is le. le))
 cast_reach w p ty n (Chain e ops) more exact sound reach one types opens low h nests = absurd (chain_not_tight _ h.0 low)
-cast_reach w p ty n (Choice e q a c b) more exact sound reach one types opens low h nests = absurd (omega (arith, low))
-cast_reach w p ty n (Assigned e op b) more exact sound reach one types opens low h nests = absurd (omega (arith, low))
+cast_reach w p ty n (Conditional e q a c b) more exact sound reach one types opens low h nests = absurd (omega (arith, low))
+cast_reach w p ty n (Assignment e op b) more exact sound reach one types opens low h nests = absurd (omega (arith, low))
 
 operand_then_reach : (go : List Token → Operands × List Token) (t : Token) (ts : List Token) (read : Read Expr) (k : ℕ) → Reaches k read → ((r : List Token) → length (go r).1 ≤ length r) → length (operand_then go t ts read).1 ≤ k
 operand_then_reach go t ts None k reach keeps = absurd reach
@@ -233,8 +233,8 @@ same_level_reach w p ty n j (Name t) ts exact sound reach types opens bound low 
 same_level_reach w p ty n j (Constant t) ts exact sound reach types opens bound low high h nests = absurd (omega (arith, low))
 same_level_reach w p ty n j (Strings t us) ts exact sound reach types opens bound low high h nests = absurd (omega (arith, low))
 same_level_reach w p ty n j (Paren o e c) ts exact sound reach types opens bound low high h nests = absurd (omega (arith, low))
-same_level_reach w p ty n j (Suffixed e s) ts exact sound reach types opens bound low high h nests = absurd (omega (arith, low))
-same_level_reach w p ty n j (Prefixed op e) ts exact sound reach types opens bound low high h nests = absurd (omega (arith, low))
+same_level_reach w p ty n j (Postfix e s) ts exact sound reach types opens bound low high h nests = absurd (omega (arith, low))
+same_level_reach w p ty n j (Unary op e) ts exact sound reach types opens bound low high h nests = absurd (omega (arith, low))
 same_level_reach w p ty n j (SizeofType k o s d c) ts exact sound reach types opens bound low high h nests = absurd (omega (arith, low))
 same_level_reach w p ty n j (Cast o s d c e) ts exact sound reach types opens bound low high h nests = absurd (omega (arith, low))
 same_level_reach w p ty n j (Chain e NoOperands) ts exact sound reach types opens bound low high h nests = absurd (omega (arith, low))
@@ -248,7 +248,7 @@ same_level_reach w p ty n j (Chain e (Operand op a rest)) ts exact sound reach t
     let shallow : nat_le (nesting e) n ≡ true = le-leb (nesting e) n (omega (arith, nests)) in
     rw (first, shallow, no_choice j chains, no_assignment j chains, chained_rest e (operand_loop w (p j) (suc j) (length (operands ops ts)) (operands ops ts)))
     (operands_reach w p n j ops ts (length (operands ops ts)) (omega (arith, bound)) exact sound reach fits (omega (arith, nests)) (omega arith))
-same_level_reach w p ty n j (Choice e q a c b) ts exact sound reach types opens bound low high h nests =
+same_level_reach w p ty n j (Conditional e q a c b) ts exact sound reach types opens bound low high h nests =
     let ten : j ≡ 10 = omega (arith, low, high) in
     let ten' : nat_eq j 10 ≡ true = rw ten (same 10) in
     let first : level_reader w p ty n j (written e (q ∷ written a (c ∷ written b ts))) ≡ Some (e, q ∷ written a (c ∷ written b ts)) =
@@ -258,7 +258,7 @@ same_level_reach w p ty n j (Choice e q a c b) ts exact sound reach types opens 
     rw (first, shallow, ten', h.1, middle, h.3)
     (else_reach (length ts) (e, q ∷ written a (c ∷ written b ts)) _
     (reach_then (length ts) (length ts) (IsExpr w n 11 (written b ts)) (p 11 (written b ts)) _ (sound 11 (omega arith) (written b ts)) (reach 11 (omega arith) b ts h.4.0 (omega (arith, nests)) h.4.1) (λ f r is le. le)))
-same_level_reach w p ty n j (Assigned e op b) ts exact sound reach types opens bound low high h nests =
+same_level_reach w p ty n j (Assignment e op b) ts exact sound reach types opens bound low high h nests =
     let eleven : j ≡ 11 = omega (arith, low, high) in
     let not_ten : nat_eq j 10 ≡ false = rw eleven refl in
     let eleven' : nat_eq j 11 ≡ true = rw eleven (same 11) in

@@ -12,7 +12,7 @@ use Rattle.ck_grammar.specs.ReadingExpressions.{begins_lead, begins_operand}
 use Rattle.ck_grammar.specs.ReadingStatements.{comes, is_label, evaluates, statement_by, read_statement, statement_at}
 use Rattle.ck_grammar.specs.ReadingTypes.{begins_with}
 use Rattle.ck_grammar.specs.Specified.{InBlock, is_text}
-use Rattle.ck_grammar.specs.Statements.{Declaration, Statement, Items, Block, Empty, Evaluates, If, IfElse, Switch, While, Do, For, Case, Default, Label, Goto, Leave, Return, ReturnValue, NoItems, Declaring, Doing}
+use Rattle.ck_grammar.specs.Statements.{Declaration, Statement, BlockItems, Block, Empty, ExpressionStatement, If, IfElse, Switch, While, Do, For, Case, Default, Label, Goto, Jump, Return, ReturnValue, NoBlockItems, DeclarationItem, StatementItem}
 use Rattle.ck_grammar.specs.StatementsFitting.{FitsStatement, FitsItems, IsLeave}
 use Rattle.ck_grammar.specs.StatementsWritten.{declaration, statement, items}
 use Rattle.ck_grammar.specs.Trees.{Expr}
@@ -46,7 +46,7 @@ operand_no_specifiers w (t ∷ ts) h = no_specifiers_begin (w t) h
 statement_no_else : (bytes : List ℕ) (typedefs : List (List ℕ)) (s : Statement) (more : List Token) → FitsStatement bytes typedefs s → comes (word_of bytes typedefs) (codes "else") (statement s more) ≡ false
 statement_no_else bytes typedefs (Block o is c) more h = rw h.0 refl
 statement_no_else bytes typedefs (Empty semicolon) more h = rw h refl
-statement_no_else bytes typedefs (Evaluates e semicolon) more h = operand_comes_not (word_of bytes typedefs) (written e (semicolon ∷ more)) (codes "else") (begins (word_of bytes typedefs) e (semicolon ∷ more) h.0) refl
+statement_no_else bytes typedefs (ExpressionStatement e semicolon) more h = operand_comes_not (word_of bytes typedefs) (written e (semicolon ∷ more)) (codes "else") (begins (word_of bytes typedefs) e (semicolon ∷ more) h.0) refl
 statement_no_else bytes typedefs (If k o e c s) more h = rw h.0.0 refl
 statement_no_else bytes typedefs (IfElse k o e c s l t) more h = rw h.0.0 refl
 statement_no_else bytes typedefs (Switch k o e c s) more h = rw h.0.0 refl
@@ -57,22 +57,22 @@ statement_no_else bytes typedefs (Case k e colon s) more h = rw h.0 refl
 statement_no_else bytes typedefs (Default k colon s) more h = rw h.0 refl
 statement_no_else bytes typedefs (Label t colon s) more h = other_word is_identifier (word_of bytes typedefs t) (codes "else") h.0 refl
 statement_no_else bytes typedefs (Goto k t semicolon) more h = rw h.0 refl
-statement_no_else bytes typedefs (Leave k semicolon) more h = leave_not_else (word_of bytes typedefs k) h.0
+statement_no_else bytes typedefs (Jump k semicolon) more h = leave_not_else (word_of bytes typedefs k) h.0
 statement_no_else bytes typedefs (Return k semicolon) more h = rw h.0 refl
 statement_no_else bytes typedefs (ReturnValue k e semicolon) more h = rw h.0 refl
 
-pub items_no_else : (bytes : List ℕ) (typedefs : List (List ℕ)) (is : Items) (c : Token) (more : List Token)
+pub items_no_else : (bytes : List ℕ) (typedefs : List (List ℕ)) (is : BlockItems) (c : Token) (more : List Token)
     → FitsItems bytes typedefs is → word_of bytes typedefs c ≡ Fixed (codes "}") → comes (word_of bytes typedefs) (codes "else") (items is (c ∷ more)) ≡ false
-items_no_else bytes typedefs NoItems c more h close = rw close refl
-items_no_else bytes typedefs (Declaring d rest) c more h close = specifiers_come_not (word_of bytes typedefs) (declaration d (items rest (c ∷ more))) (codes "else") (declaration_begins bytes typedefs InBlock d (items rest (c ∷ more)) h.0) refl
-items_no_else bytes typedefs (Doing s rest) c more h close = statement_no_else bytes typedefs s (items rest (c ∷ more)) h.0
+items_no_else bytes typedefs NoBlockItems c more h close = rw close refl
+items_no_else bytes typedefs (DeclarationItem d rest) c more h close = specifiers_come_not (word_of bytes typedefs) (declaration d (items rest (c ∷ more))) (codes "else") (declaration_begins bytes typedefs InBlock d (items rest (c ∷ more)) h.0) refl
+items_no_else bytes typedefs (StatementItem s rest) c more h close = statement_no_else bytes typedefs s (items rest (c ∷ more)) h.0
 
 -- a statement begins as no declaration does
 pub no_declaration : (bytes : List ℕ) (typedefs : List (List ℕ)) (s : Statement) (more : List Token) → FitsStatement bytes typedefs s
     → (begins_with (word_of bytes typedefs) begins_specifiers (statement s more) && not (is_label (word_of bytes typedefs) (statement s more))) ≡ false
 no_declaration bytes typedefs (Block o is c) more h = rw h.0 refl
 no_declaration bytes typedefs (Empty semicolon) more h = rw h refl
-no_declaration bytes typedefs (Evaluates e semicolon) more h = rw (operand_no_specifiers (word_of bytes typedefs) (written e (semicolon ∷ more)) (begins (word_of bytes typedefs) e (semicolon ∷ more) h.0)) refl
+no_declaration bytes typedefs (ExpressionStatement e semicolon) more h = rw (operand_no_specifiers (word_of bytes typedefs) (written e (semicolon ∷ more)) (begins (word_of bytes typedefs) e (semicolon ∷ more) h.0)) refl
 no_declaration bytes typedefs (If k o e c s) more h = rw h.0.0 refl
 no_declaration bytes typedefs (IfElse k o e c s l t) more h = rw h.0.0 refl
 no_declaration bytes typedefs (Switch k o e c s) more h = rw h.0.0 refl
@@ -83,7 +83,7 @@ no_declaration bytes typedefs (Case k e colon s) more h = rw h.0 refl
 no_declaration bytes typedefs (Default k colon s) more h = rw h.0 refl
 no_declaration bytes typedefs (Label t colon s) more h = rw (h.0, h.1) (and_false (begins_specifiers (sort (word_of bytes typedefs t))))
 no_declaration bytes typedefs (Goto k t semicolon) more h = rw h.0 refl
-no_declaration bytes typedefs (Leave k semicolon) more h = rw (leave_no_specifiers (word_of bytes typedefs k) h.0) refl
+no_declaration bytes typedefs (Jump k semicolon) more h = rw (leave_no_specifiers (word_of bytes typedefs k) h.0) refl
 no_declaration bytes typedefs (Return k semicolon) more h = rw h.0 refl
 no_declaration bytes typedefs (ReturnValue k e semicolon) more h = rw h.0 refl
 

@@ -3,7 +3,7 @@ use Rattle.std.proofs.Common.{◌≡◌, suc, ◌≤◌, false, List, [], ◌∷
 use Rattle.ck_base.specs.declared.tokens.Token.{Token}
 use Rattle.ck_grammar.proofs.Lengths.{longer, longer_specifiers, longer_declarator, longer_optional}
 use Rattle.ck_grammar.specs.ReadingStatements.{is_empty}
-use Rattle.ck_grammar.specs.Statements.{Designators, Init, Inits, Declared, MoreDeclared, Declaration, ForStart, Statement, Items, External, Equals, DotName, AtIndex, Value, Braced, LastInit, NextInit, Plainly, Initialised, NoMoreDeclared, AndPlainly, AndInitialised, Bare, Declares, StartEmpty, StartExpr, StartDeclaration, Block, Empty, Evaluates, If, IfElse, Switch, While, Do, For, Case, Default, Label, Goto, Leave, Return, ReturnValue, NoItems, Declaring, Doing, Outside, Defines}
+use Rattle.ck_grammar.specs.Statements.{Designators, Init, Inits, Declared, MoreDeclared, Declaration, ForStart, Statement, BlockItems, External, Equals, DotName, AtIndex, Value, Braced, LastInit, NextInit, Plainly, Initialised, NoMoreDeclared, AndPlainly, AndInitialised, Bare, Declares, StartEmpty, StartExpr, StartDeclaration, Block, Empty, ExpressionStatement, If, IfElse, Switch, While, Do, For, Case, Default, Label, Goto, Jump, Return, ReturnValue, NoBlockItems, DeclarationItem, StatementItem, FileDeclaration, FunctionDefinition}
 use Rattle.ck_grammar.specs.StatementsWritten.{designators, designation, init, inits, more_declared, declared, declaration, for_start, maybe_written, statement, items, external}
 use Rattle.ck_grammar.specs.Trees.{Expr}
 use Rattle.ck_grammar.specs.Written.{written, declarator, optional}
@@ -52,7 +52,7 @@ mutual
   pub longer_statement : (s : Statement) (more : List Token) → suc (length more) ≤ length (statement s more)
   longer_statement (Block o is c) more = omega (arith, longer_items is (c ∷ more))
   longer_statement (Empty semicolon) more = omega arith
-  longer_statement (Evaluates e semicolon) more = longer e (semicolon ∷ more)
+  longer_statement (ExpressionStatement e semicolon) more = longer e (semicolon ∷ more)
   longer_statement (If k o e c s) more = omega (arith, longer e (c ∷ statement s more), longer_statement s more)
   longer_statement (IfElse k o e c s l t) more = omega (arith, longer e (c ∷ statement s (l ∷ statement t more)), longer_statement s (l ∷ statement t more), longer_statement t more)
   longer_statement (Switch k o e c s) more = omega (arith, longer e (c ∷ statement s more), longer_statement s more)
@@ -64,18 +64,18 @@ mutual
   longer_statement (Default k colon s) more = omega (arith, longer_statement s more)
   longer_statement (Label t colon s) more = omega (arith, longer_statement s more)
   longer_statement (Goto k t semicolon) more = omega arith
-  longer_statement (Leave k semicolon) more = omega arith
+  longer_statement (Jump k semicolon) more = omega arith
   longer_statement (Return k semicolon) more = omega arith
   longer_statement (ReturnValue k e semicolon) more = omega (arith, longer e (semicolon ∷ more))
 
-  pub longer_items : (is : Items) (more : List Token) → length more ≤ length (items is more)
-  longer_items NoItems more = omega arith
-  longer_items (Declaring d rest) more = omega (arith, longer_declaration d (items rest more), longer_items rest more)
-  longer_items (Doing s rest) more = omega (arith, longer_statement s (items rest more), longer_items rest more)
+  pub longer_items : (is : BlockItems) (more : List Token) → length more ≤ length (items is more)
+  longer_items NoBlockItems more = omega arith
+  longer_items (DeclarationItem d rest) more = omega (arith, longer_declaration d (items rest more), longer_items rest more)
+  longer_items (StatementItem s rest) more = omega (arith, longer_statement s (items rest more), longer_items rest more)
 
 pub longer_external : (x : External) (more : List Token) → suc (length more) ≤ length (external x more)
-longer_external (Outside d) more = longer_declaration d more
-longer_external (Defines s d o is c) more = omega (arith, longer_specifiers s (declarator d (o ∷ items is (c ∷ more))), longer_declarator d (o ∷ items is (c ∷ more)), longer_items is (c ∷ more))
+longer_external (FileDeclaration d) more = longer_declaration d more
+longer_external (FunctionDefinition s d o is c) more = omega (arith, longer_specifiers s (declarator d (o ∷ items is (c ∷ more))), longer_declarator d (o ∷ items is (c ∷ more)), longer_items is (c ∷ more))
 
 -- tokens of which there are more than none
 pub not_empty : (ts : List Token) → 1 ≤ length ts → is_empty ts ≡ false

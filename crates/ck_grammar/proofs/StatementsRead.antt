@@ -19,7 +19,7 @@ use Rattle.ck_grammar.specs.ReadingExpressions.{begins_lead, begins_operand}
 use Rattle.ck_grammar.specs.ReadingStatements.{comes, is_label, maybe_expr, start, item_loop, read_statement, declaration_at, statement_at, body_at}
 use Rattle.ck_grammar.specs.ReadingTypes.{begins_with}
 use Rattle.ck_grammar.specs.Specified.{InBlock}
-use Rattle.ck_grammar.specs.Statements.{Declaration, ForStart, Statement, Items, StartEmpty, StartExpr, StartDeclaration, Block, Empty, Evaluates, If, IfElse, Switch, While, Do, For, Case, Default, Label, Goto, Leave, Return, ReturnValue, NoItems, Declaring, Doing}
+use Rattle.ck_grammar.specs.Statements.{Declaration, ForStart, Statement, BlockItems, StartEmpty, StartExpr, StartDeclaration, Block, Empty, ExpressionStatement, If, IfElse, Switch, While, Do, For, Case, Default, Label, Goto, Jump, Return, ReturnValue, NoBlockItems, DeclarationItem, StatementItem}
 use Rattle.ck_grammar.specs.StatementsFitting.{FitsDeclaration, FitsStart, FitsMaybe, FitsStatement, FitsItems, ends_open}
 use Rattle.ck_grammar.specs.StatementsNesting.{declaration_nesting, start_nesting, maybe_nesting, statement_nesting, items_nesting}
 use Rattle.ck_grammar.specs.StatementsWritten.{declaration, for_start, maybe_written, statement, items}
@@ -60,21 +60,21 @@ start_read bytes typedefs n p d (StartExpr e semicolon) more exact reads h nests
     rw (operand_no_specifiers (word_of bytes typedefs) (written e (semicolon ∷ more)) begun, begun, read, h.1) refl
 start_read bytes typedefs n p d (StartDeclaration x) more exact reads h nests = rw (declaration_begins bytes typedefs InBlock x more h, reads x more h nests) refl
 
-items_read : (bytes : List ℕ) (typedefs : List (List ℕ)) (n : ℕ) (d : Reader Declaration) (s : Reader Statement) (is : Items) (c : Token) (more : List Token) (f : ℕ)
+items_read : (bytes : List ℕ) (typedefs : List (List ℕ)) (n : ℕ) (d : Reader Declaration) (s : Reader Statement) (is : BlockItems) (c : Token) (more : List Token) (f : ℕ)
     → ReadsDeclarations bytes typedefs n d → ReadsStatements bytes typedefs n s → NoneAtCurly bytes typedefs s
     → FitsItems bytes typedefs is → items_nesting is ≤ n → word_of bytes typedefs c ≡ Fixed (codes "}") → length (items is (c ∷ more)) ≤ f
     → item_loop (word_of bytes typedefs) d s f (items is (c ∷ more)) ≡ (is, c ∷ more)
-items_read bytes typedefs n d s NoItems c more zero reads_d reads_s none h nests close fuel = refl
-items_read bytes typedefs n d s NoItems c more (suc f) reads_d reads_s none h nests close fuel = rw (close, none c more close) refl
-items_read bytes typedefs n d s (Declaring x rest) c more zero reads_d reads_s none h nests close fuel = absurd (omega (arith, fuel, longer_declaration x (items rest (c ∷ more))))
-items_read bytes typedefs n d s (Declaring x rest) c more (suc f) reads_d reads_s none h nests close fuel =
+items_read bytes typedefs n d s NoBlockItems c more zero reads_d reads_s none h nests close fuel = refl
+items_read bytes typedefs n d s NoBlockItems c more (suc f) reads_d reads_s none h nests close fuel = rw (close, none c more close) refl
+items_read bytes typedefs n d s (DeclarationItem x rest) c more zero reads_d reads_s none h nests close fuel = absurd (omega (arith, fuel, longer_declaration x (items rest (c ∷ more))))
+items_read bytes typedefs n d s (DeclarationItem x rest) c more (suc f) reads_d reads_s none h nests close fuel =
     let test : (begins_with (word_of bytes typedefs) begins_specifiers (declaration x (items rest (c ∷ more))) && not (is_label (word_of bytes typedefs) (declaration x (items rest (c ∷ more))))) ≡ true =
     rw (declaration_begins bytes typedefs InBlock x (items rest (c ∷ more)) h.0, declaration_no_label bytes typedefs InBlock x (items rest (c ∷ more)) h.0) refl in
     let read : d (declaration x (items rest (c ∷ more))) ≡ Some (x, items rest (c ∷ more)) = reads_d x (items rest (c ∷ more)) h.0 (omega (arith, nests)) in
     let again : item_loop (word_of bytes typedefs) d s f (items rest (c ∷ more)) ≡ (rest, c ∷ more) = items_read bytes typedefs n d s rest c more f reads_d reads_s none h.1 (omega (arith, nests)) close (omega (arith, fuel, longer_declaration x (items rest (c ∷ more)))) in
     rw (test, read, again) refl
-items_read bytes typedefs n d s (Doing x rest) c more zero reads_d reads_s none h nests close fuel = absurd (omega (arith, fuel, longer_statement x (items rest (c ∷ more))))
-items_read bytes typedefs n d s (Doing x rest) c more (suc f) reads_d reads_s none h nests close fuel =
+items_read bytes typedefs n d s (StatementItem x rest) c more zero reads_d reads_s none h nests close fuel = absurd (omega (arith, fuel, longer_statement x (items rest (c ∷ more))))
+items_read bytes typedefs n d s (StatementItem x rest) c more (suc f) reads_d reads_s none h nests close fuel =
     let read : s (statement x (items rest (c ∷ more))) ≡ Some (x, items rest (c ∷ more)) = reads_s x (items rest (c ∷ more)) h.0 (omega (arith, nests)) (λ open_. items_no_else bytes typedefs rest c more h.1 close) in
     let again : item_loop (word_of bytes typedefs) d s f (items rest (c ∷ more)) ≡ (rest, c ∷ more) = items_read bytes typedefs n d s rest c more f reads_d reads_s none h.1 (omega (arith, nests)) close (omega (arith, fuel, longer_statement x (items rest (c ∷ more)))) in
     rw (no_declaration bytes typedefs x (items rest (c ∷ more)) h.0, read, again) refl
@@ -87,7 +87,7 @@ statement_by_read bytes typedefs n p d r (Block o is c) more exact reads_d reads
     let all : item_loop (word_of bytes typedefs) d r (length (items is (c ∷ more))) (items is (c ∷ more)) ≡ (is, c ∷ more) = items_read bytes typedefs n d r is c more (length (items is (c ∷ more))) reads_d reads_s none h.1 (omega (arith, nests)) h.2 (omega arith) in
     rw (h.0, all, h.2) refl
 statement_by_read bytes typedefs n p d r (Empty semicolon) more exact reads_d reads_s none h nests stop = rw h refl
-statement_by_read bytes typedefs n p d r (Evaluates e semicolon) more exact reads_d reads_s none h nests stop =
+statement_by_read bytes typedefs n p d r (ExpressionStatement e semicolon) more exact reads_d reads_s none h nests stop =
     let w = word_of bytes typedefs in
     let read : p 13 (written e (semicolon ∷ more)) ≡ Some (e, semicolon ∷ more) = whole_read w n p e (semicolon ∷ more) exact h.0 (omega (arith, nests)) (at_semicolon w semicolon more 13 (omega arith) h.1) in
     evaluates_read w p d r (written e (semicolon ∷ more)) (begins w e (semicolon ∷ more) h.0) (expression_no_label w e (semicolon ∷ more) h.0 (rw h.1 refl)) ∙ rw (read, h.1) refl
@@ -139,7 +139,7 @@ statement_by_read bytes typedefs n p d r (Label t colon s) more exact reads_d re
     let body : r (statement s more) ≡ Some (s, more) = reads_s s more h.2 (omega (arith, nests)) stop in
     rw (name_phrase (word_of bytes typedefs t) h.0, h.1, body) refl
 statement_by_read bytes typedefs n p d r (Goto k t semicolon) more exact reads_d reads_s none h nests stop = rw (h.0, h.1, h.2) refl
-statement_by_read bytes typedefs n p d r (Leave k semicolon) more exact reads_d reads_s none h nests stop = rw (leave_phrase (word_of bytes typedefs k) h.0, h.1) refl
+statement_by_read bytes typedefs n p d r (Jump k semicolon) more exact reads_d reads_s none h nests stop = rw (leave_phrase (word_of bytes typedefs k) h.0, h.1) refl
 statement_by_read bytes typedefs n p d r (Return k semicolon) more exact reads_d reads_s none h nests stop = rw (h.0, h.1) refl
 statement_by_read bytes typedefs n p d r (ReturnValue k e semicolon) more exact reads_d reads_s none h nests stop =
     let w = word_of bytes typedefs in
@@ -149,7 +149,7 @@ statement_by_read bytes typedefs n p d r (ReturnValue k e semicolon) more exact 
 no_statement : (s : Statement) → statement_nesting s ≤ 0 → ⊥
 no_statement (Block o is c) h = omega (arith, h)
 no_statement (Empty semicolon) h = omega (arith, h)
-no_statement (Evaluates e semicolon) h = omega (arith, h)
+no_statement (ExpressionStatement e semicolon) h = omega (arith, h)
 no_statement (If k o e c s) h = omega (arith, h)
 no_statement (IfElse k o e c s l t) h = omega (arith, h)
 no_statement (Switch k o e c s) h = omega (arith, h)
@@ -160,7 +160,7 @@ no_statement (Case k e colon s) h = omega (arith, h)
 no_statement (Default k colon s) h = omega (arith, h)
 no_statement (Label t colon s) h = omega (arith, h)
 no_statement (Goto k t semicolon) h = omega (arith, h)
-no_statement (Leave k semicolon) h = omega (arith, h)
+no_statement (Jump k semicolon) h = omega (arith, h)
 no_statement (Return k semicolon) h = omega (arith, h)
 no_statement (ReturnValue k e semicolon) h = omega (arith, h)
 
@@ -173,7 +173,7 @@ statement_read bytes typedefs (suc n) x more h nests stop =
     (declaration_read bytes typedefs n InBlock) (statement_read bytes typedefs n) (no_statement_at_curly bytes typedefs n) h nests stop
 
 -- a body is read up to its closing mark
-pub body_read : (bytes : List ℕ) (typedefs : List (List ℕ)) (n : ℕ) (is : Items) (c : Token) (more : List Token)
+pub body_read : (bytes : List ℕ) (typedefs : List (List ℕ)) (n : ℕ) (is : BlockItems) (c : Token) (more : List Token)
     → FitsItems bytes typedefs is → items_nesting is ≤ n → word_of bytes typedefs c ≡ Fixed (codes "}") → body_at bytes typedefs n (items is (c ∷ more)) ≡ (is, c ∷ more)
 body_read bytes typedefs n is c more h nests close =
     items_read bytes typedefs n (declaration_at bytes typedefs n InBlock) (statement_at bytes typedefs n) is c more (length (items is (c ∷ more)))

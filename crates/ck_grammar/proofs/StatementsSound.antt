@@ -18,7 +18,7 @@ use Rattle.ck_grammar.specs.ReadingExpressions.{begins_operand}
 use Rattle.ck_grammar.specs.ReadingStatements.{comes, declares, declaration_at, maybe_expr, start, is_label, item, item_loop, in_test, evaluates, statement_by, read_statement, statement_at, is_function, body_at, defines, external_at, then_all, is_empty, file_loop}
 use Rattle.ck_grammar.specs.ReadingTypes.{begins_with}
 use Rattle.ck_grammar.specs.Specified.{InBlock, InFile}
-use Rattle.ck_grammar.specs.Statements.{Declaration, ForStart, Statement, Items, External, If, IfElse, NoItems}
+use Rattle.ck_grammar.specs.Statements.{Declaration, ForStart, Statement, BlockItems, External, If, IfElse, NoBlockItems}
 use Rattle.ck_grammar.specs.StatementsFitting.{IsLeave, FitsStart, FitsMaybe, ends_open, FitsStatement, FitsItems, is_typedef, shape, Shape, JustName, FunctionShape, OtherShape, FitsExternal, external_behind, FitsFile}
 use Rattle.ck_grammar.specs.StatementsNesting.{start_nesting, maybe_nesting, statement_nesting, items_nesting, external_nesting, file_nesting}
 use Rattle.ck_grammar.specs.StatementsWritten.{for_start, maybe_written, statement, items, external, file, declaration}
@@ -36,7 +36,7 @@ GoodMaybe w n e = FitsMaybe w e × (maybe_nesting e ≤ n)
 abbrev pub GoodStatement : List ℕ → List (List ℕ) → ℕ → Statement → Type 0
 GoodStatement bytes typedefs n s = FitsStatement bytes typedefs s × (statement_nesting s ≤ n)
 
-abbrev pub GoodItems : List ℕ → List (List ℕ) → ℕ → Items → Type 0
+abbrev pub GoodItems : List ℕ → List (List ℕ) → ℕ → BlockItems → Type 0
 GoodItems bytes typedefs n is = FitsItems bytes typedefs is × (items_nesting is ≤ n)
 
 abbrev pub GoodExternal : List ℕ → List (List ℕ) → ℕ → External → Type 0
@@ -49,7 +49,7 @@ IsStart bytes typedefs n ts = IsSpelled (GoodStart bytes typedefs n) for_start t
 abbrev IsMaybe : (Token → Word) → ℕ → List Token → Option Expr → List Token → Type 0
 IsMaybe w n ts = IsSpelled (GoodMaybe w n) maybe_written ts
 
-abbrev pub IsItems : List ℕ → List (List ℕ) → ℕ → List Token → Items → List Token → Type 0
+abbrev pub IsItems : List ℕ → List (List ℕ) → ℕ → List Token → BlockItems → List Token → Type 0
 IsItems bytes typedefs n ts = IsSpelled (GoodItems bytes typedefs n) items ts
 
 abbrev pub IsExternal : List ℕ → List (List ℕ) → ℕ → List Token → External → List Token → Type 0
@@ -85,7 +85,7 @@ start_sound bytes typedefs p d n sound_p sound_d ts =
     record { tokens_are = rw (at, is.tokens_are) refl; good = ((is.good.0, ended), is.good.1) })))
     (λ _. on_behind (IsStart bytes typedefs n ts) (word_of bytes typedefs) (codes ";") ts _ (λ semicolon r at ended. record { tokens_are = at; good = (ended, omega arith) })))
 
-item_sound : (bytes : List ℕ) (typedefs : List (List ℕ)) (d : Reader Declaration) (s : Reader Statement) (go : List Token → Items × List Token) (n : ℕ) (ts : List Token)
+item_sound : (bytes : List ℕ) (typedefs : List (List ℕ)) (d : Reader Declaration) (s : Reader Statement) (go : List Token → BlockItems × List Token) (n : ℕ) (ts : List Token)
     → SoundReader (GoodDeclaration bytes typedefs n InBlock) declaration d → SoundStatements bytes typedefs n s → SoundLoop (GoodItems bytes typedefs n) items go
     → OnRead (IsItems bytes typedefs n ts) (item (word_of bytes typedefs) d s go ts)
 item_sound bytes typedefs d s go n ts sound_d sound_s again =
@@ -95,14 +95,14 @@ item_sound bytes typedefs d s go n ts sound_d sound_s again =
     (λ _. on_then (IsStatement bytes typedefs n ts) (IsItems bytes typedefs n ts) (s ts) _ (sound_s ts) (λ x r is.
     let later = again r in record { tokens_are = rw (later.tokens_are, is.0.tokens_are) refl; good = ((is.0.good.0, later.good.0), omega (arith, is.0.good.1, later.good.1)) }))
 
-no_items : (bytes : List ℕ) (typedefs : List (List ℕ)) (n : ℕ) (ts : List Token) → IsItems bytes typedefs n ts NoItems ts
+no_items : (bytes : List ℕ) (typedefs : List (List ℕ)) (n : ℕ) (ts : List Token) → IsItems bytes typedefs n ts NoBlockItems ts
 no_items bytes typedefs n ts = record { tokens_are = refl; good = (tt, omega arith) }
 
 item_loop_sound : (bytes : List ℕ) (typedefs : List (List ℕ)) (d : Reader Declaration) (s : Reader Statement) (n f : ℕ)
     → SoundReader (GoodDeclaration bytes typedefs n InBlock) declaration d → SoundStatements bytes typedefs n s → SoundLoop (GoodItems bytes typedefs n) items (item_loop (word_of bytes typedefs) d s f)
 item_loop_sound bytes typedefs d s n zero sound_d sound_s ts = no_items bytes typedefs n ts
 item_loop_sound bytes typedefs d s n (suc f) sound_d sound_s ts =
-    on_else (IsItems bytes typedefs n ts) (NoItems, ts) (item (word_of bytes typedefs) d s (item_loop (word_of bytes typedefs) d s f) ts) (no_items bytes typedefs n ts)
+    on_else (IsItems bytes typedefs n ts) (NoBlockItems, ts) (item (word_of bytes typedefs) d s (item_loop (word_of bytes typedefs) d s f) ts) (no_items bytes typedefs n ts)
     (item_sound bytes typedefs d s (item_loop (word_of bytes typedefs) d s f) n ts sound_d sound_s (item_loop_sound bytes typedefs d s n f sound_d sound_s))
 
 in_test_sound : {B : Type 0} (Q : B → List Token → Type 0) (w : Token → Word) (n : ℕ) (p : Reader Expr) (ts : List Token) (go : Token → Expr → Token → List Token → Read B)

@@ -11,7 +11,7 @@ use Rattle.ck_grammar.specs.Fitting.{Fits, FitsSuffixes, AreStrings, is_primary}
 use Rattle.ck_grammar.specs.Nesting.{nesting, suffixes_nesting}
 use Rattle.ck_grammar.specs.Readers.{Reader}
 use Rattle.ck_grammar.specs.ReadingExpressions.{operand_loop, suffix_loop, suffix_by, suffixed, postfix_behind, unary, neighbours, is_string, begins_operand}
-use Rattle.ck_grammar.specs.Trees.{Expr, Suffixes, Specifiers, Declarator, Name, Constant, Strings, Paren, Suffixed, Prefixed, SizeofType, Cast, Chain, Choice, Assigned, NoSuffixes, Index, CallEmpty, Call, Access, Step}
+use Rattle.ck_grammar.specs.Trees.{Expr, Suffixes, Specifiers, Declarator, Name, Constant, Strings, Paren, Postfix, Unary, SizeofType, Cast, Chain, Conditional, Assignment, NoSuffixes, Index, CallEmpty, Call, MemberAccess, PostIncrement}
 use Rattle.ck_grammar.specs.Words.{Word, Ordinary, Typedef, Number, String, Fixed, Follow, Bracket, Parenthesis, Point, Steps, Neighbour, Operator, Nothing, follow, level}
 use Rattle.ck_grammar.specs.Written.{written, operands, suffixes}
 
@@ -51,12 +51,12 @@ suffixes_read w p n (Call o e ops c rest) more (suc f) exact h nests stop fuel =
     let all : operand_loop w (p 12) 13 (length (operands ops (c ∷ suffixes rest more))) (operands ops (c ∷ suffixes rest more)) ≡ (ops, c ∷ suffixes rest more) = operands_read w (p 12) n 12 ops (c ∷ suffixes rest more) (length (operands ops (c ∷ suffixes rest more))) (exact 12 (omega arith)) h.1.2 (omega (arith, nests)) stop13 (omega arith) in
     let again : suffix_loop w p f (suffixes rest more) ≡ (rest, more) = suffixes_read w p n rest more f exact h.3 (omega (arith, nests)) stop (omega (arith, fuel, longer e (operands ops (c ∷ suffixes rest more)), longer_operands ops (c ∷ suffixes rest more))) in
     rw (h.0, head, read, all, h.2, again) refl
-suffixes_read w p n (Access t m rest) more zero exact h nests stop fuel = absurd (omega (arith, fuel))
-suffixes_read w p n (Access t m rest) more (suc f) exact h nests stop fuel =
+suffixes_read w p n (MemberAccess t m rest) more zero exact h nests stop fuel = absurd (omega (arith, fuel))
+suffixes_read w p n (MemberAccess t m rest) more (suc f) exact h nests stop fuel =
     let again : suffix_loop w p f (suffixes rest more) ≡ (rest, more) = suffixes_read w p n rest more f exact h.2 nests stop (omega (arith, fuel)) in
     rw (h.0, h.1, again) refl
-suffixes_read w p n (Step t rest) more zero exact h nests stop fuel = absurd (omega (arith, fuel))
-suffixes_read w p n (Step t rest) more (suc f) exact h nests stop fuel =
+suffixes_read w p n (PostIncrement t rest) more zero exact h nests stop fuel = absurd (omega (arith, fuel))
+suffixes_read w p n (PostIncrement t rest) more (suc f) exact h nests stop fuel =
     let again : suffix_loop w p f (suffixes rest more) ≡ (rest, more) = suffixes_read w p n rest more f exact h.1 nests stop (omega (arith, fuel)) in
     rw (h.0, again) refl
 
@@ -94,8 +94,8 @@ suffixes_stop w NoSuffixes more h stop = stop
 suffixes_stop w (Index o e c rest) more h stop = rw h.0 refl
 suffixes_stop w (CallEmpty o c rest) more h stop = rw h.0 refl
 suffixes_stop w (Call o e ops c rest) more h stop = rw h.0 refl
-suffixes_stop w (Access t m rest) more h stop = no_string (w t) (rw h.0 refl)
-suffixes_stop w (Step t rest) more h stop = no_string (w t) (rw h.0 refl)
+suffixes_stop w (MemberAccess t m rest) more h stop = no_string (w t) (rw h.0 refl)
+suffixes_stop w (PostIncrement t rest) more h stop = no_string (w t) (rw h.0 refl)
 
 neighbours_read : (w : Token → Word) (ts more : List Token) → AreStrings w ts → StopsStrings w more → neighbours w (ts ++ more) ≡ (ts, more)
 neighbours_read w [] [] h stop = refl
@@ -112,13 +112,13 @@ primary_read w p ty n (Strings t ts) more exact one h nests stop = rw (h.0, neig
 primary_read w p ty n (Paren o e c) more exact one h nests stop =
     let read : p 13 (written e (c ∷ more)) ≡ Some (e, c ∷ more) = exact 13 (omega arith) e (c ∷ more) h.1 (omega (arith, nests)) (loosest w e h.1) (at_round w c more 13 (omega arith) h.2) in
     rw (h.0, read, h.2) refl
-primary_read w p ty n (Suffixed e s) more exact one h nests stop = absurd (false≢true one)
-primary_read w p ty n (Prefixed op e) more exact one h nests stop = absurd (false≢true one)
+primary_read w p ty n (Postfix e s) more exact one h nests stop = absurd (false≢true one)
+primary_read w p ty n (Unary op e) more exact one h nests stop = absurd (false≢true one)
 primary_read w p ty n (SizeofType k o s d c) more exact one h nests stop = absurd (false≢true one)
 primary_read w p ty n (Cast o s d c e) more exact one h nests stop = absurd (false≢true one)
 primary_read w p ty n (Chain e ops) more exact one h nests stop = absurd (false≢true one)
-primary_read w p ty n (Choice e q a c b) more exact one h nests stop = absurd (false≢true one)
-primary_read w p ty n (Assigned e op b) more exact one h nests stop = absurd (false≢true one)
+primary_read w p ty n (Conditional e q a c b) more exact one h nests stop = absurd (false≢true one)
+primary_read w p ty n (Assignment e op b) more exact one h nests stop = absurd (false≢true one)
 
 either : (b : Bool) (e : Expr) (more : List Token) → cond b (suffixed e (NoSuffixes, more)) (e, more) ≡ (e, more)
 either true e more = refl
@@ -129,8 +129,8 @@ pub nothing_behind : (w : Token → Word) (p : ℕ → Reader Expr) (n : ℕ) (e
 nothing_behind w p n e more stop = rw (no_more_suffixes w p (length more) more stop) (either (nat_le (nesting e) n) e more)
 
 pub suffixed_read : (w : Token → Word) (p : ℕ → Reader Expr) (ty : Reader (Specifiers × Declarator)) (n : ℕ) (e : Expr) (s : Suffixes) (more : List Token)
-    → Exact w n p → Fits w (Suffixed e s) → nesting (Suffixed e s) ≤ suc n → StopsAt w 0 more
-    → unary w p ty n (written e (suffixes s more)) ≡ Some (Suffixed e s, more)
+    → Exact w n p → Fits w (Postfix e s) → nesting (Postfix e s) ≤ suc n → StopsAt w 0 more
+    → unary w p ty n (written e (suffixes s more)) ≡ Some (Postfix e s, more)
 suffixed_read w p ty n e s more exact h nests stop =
     let first : unary w p ty n (written e (suffixes s more)) ≡ Some (postfix_behind w p n e (suffixes s more)) = primary_read w p ty n e (suffixes s more) exact h.0 h.1 (omega (arith, nests)) (suffixes_stop w s more h.2 (stops_strings w more stop)) in
     let fits : nat_le (nesting e) n ≡ true = le-leb (nesting e) n (omega (arith, nests)) in

@@ -12,7 +12,7 @@ use Rattle.ck_grammar.specs.Fitting.{Fits}
 use Rattle.ck_grammar.specs.Nesting.{nesting}
 use Rattle.ck_grammar.specs.Specified.{is_text}
 use Rattle.ck_grammar.specs.Spelling.{SpellsFile}
-use Rattle.ck_grammar.specs.Statements.{External, Evaluates, NoItems, Doing, Defines}
+use Rattle.ck_grammar.specs.Statements.{External, ExpressionStatement, NoBlockItems, StatementItem, FunctionDefinition}
 use Rattle.ck_grammar.specs.StatementsFitting.{FitsFile}
 use Rattle.ck_grammar.specs.StatementsNesting.{file_nesting}
 use Rattle.ck_grammar.specs.StatementsWritten.{file}
@@ -62,7 +62,7 @@ record AreMain (w : Token → Words) (t : MainTokens) : Type 0 where
 -- `int main(void) { ((0)); }` with these pairs of parentheses
 abbrev main_of : MainTokens → List (Token × Token) → List External
 main_of t ps =
-    Defines (Word t.int_ NoSpecifiers) (Named [] t.name (Function t.open_ (VoidParams t.void_) t.close NoDims)) t.body (Doing (Evaluates (in_pairs ps t.number) t.semicolon) NoItems) t.body_end ∷ []
+    FunctionDefinition (Word t.int_ NoSpecifiers) (Named [] t.name (Function t.open_ (VoidParams t.void_) t.close NoDims)) t.body (StatementItem (ExpressionStatement (in_pairs ps t.number) t.semicolon) NoBlockItems) t.body_end ∷ []
 
 main_fits : (bytes : List ℕ) (t : MainTokens) (ps : List (Token × Token)) → AreMain (word_of bytes []) t → ArePairs (word_of bytes []) ps → FitsFile bytes [] (main_of t ps)
 main_fits bytes t ps main pairs = (

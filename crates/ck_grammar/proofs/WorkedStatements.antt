@@ -6,19 +6,19 @@ use Rattle.ck_base.specs.declared.tokens.TokenKind.TheVariants as kinds
 use Rattle.ck_grammar.proofs.Worked.{at}
 use Rattle.ck_grammar.specs.Spelling.{SpellsDeclaration, SpellsStatement, SpellsFile}
 use Rattle.ck_grammar.specs.Specified.{InFile}
-use Rattle.ck_grammar.specs.Statements.{Equals, DotName, AtIndex, Value, Braced, LastInit, Plainly, Initialised, NoMoreDeclared, Bare, Declares, Block, Evaluates, If, IfElse, Switch, Default, NoItems, Doing, Outside}
+use Rattle.ck_grammar.specs.Statements.{Equals, DotName, AtIndex, Value, Braced, LastInit, Plainly, Initialised, NoMoreDeclared, Bare, Declares, Block, ExpressionStatement, If, IfElse, Switch, Default, NoBlockItems, StatementItem, FileDeclaration}
 use Rattle.ck_grammar.specs.Trees.{Name, Constant, NoSpecifiers, Word, TypedefName, Struct, NoMembers, Member, NoDeclarators, Also, Abstract, Named, Nested, NoDims, Sized, Function, VoidParams, Parameters, NoMore, More}
 
 -- `if (a) if (b) x; else y;`: the `else` belongs to the nearer `if` (6.8.4.1)
-inner_else : SpellsStatement (If (at kinds.Key 0 2) (at kinds.Mark 3 4) (Name (at kinds.Word 4 5)) (at kinds.Mark 5 6) (IfElse (at kinds.Key 7 9) (at kinds.Mark 10 11) (Name (at kinds.Word 11 12)) (at kinds.Mark 12 13) (Evaluates (Name (at kinds.Word 14 15)) (at kinds.Mark 15 16)) (at kinds.Key 17 21) (Evaluates (Name (at kinds.Word 22 23)) (at kinds.Mark 23 24)))) (codes "if (a) if (b) x; else y;") (at kinds.Key 0 2 ∷ at kinds.Mark 3 4 ∷ at kinds.Word 4 5 ∷ at kinds.Mark 5 6 ∷ at kinds.Key 7 9 ∷ at kinds.Mark 10 11 ∷ at kinds.Word 11 12 ∷ at kinds.Mark 12 13 ∷ at kinds.Word 14 15 ∷ at kinds.Mark 15 16 ∷ at kinds.Key 17 21 ∷ at kinds.Word 22 23 ∷ at kinds.Mark 23 24 ∷ []) ([])
+inner_else : SpellsStatement (If (at kinds.Key 0 2) (at kinds.Mark 3 4) (Name (at kinds.Word 4 5)) (at kinds.Mark 5 6) (IfElse (at kinds.Key 7 9) (at kinds.Mark 10 11) (Name (at kinds.Word 11 12)) (at kinds.Mark 12 13) (ExpressionStatement (Name (at kinds.Word 14 15)) (at kinds.Mark 15 16)) (at kinds.Key 17 21) (ExpressionStatement (Name (at kinds.Word 22 23)) (at kinds.Mark 23 24)))) (codes "if (a) if (b) x; else y;") (at kinds.Key 0 2 ∷ at kinds.Mark 3 4 ∷ at kinds.Word 4 5 ∷ at kinds.Mark 5 6 ∷ at kinds.Key 7 9 ∷ at kinds.Mark 10 11 ∷ at kinds.Word 11 12 ∷ at kinds.Mark 12 13 ∷ at kinds.Word 14 15 ∷ at kinds.Mark 15 16 ∷ at kinds.Key 17 21 ∷ at kinds.Word 22 23 ∷ at kinds.Mark 23 24 ∷ []) ([])
 inner_else = record { tokens_are = refl; fits = search arith; nests = omega arith }
 
 -- the tree that gives it to the other one is not well formed
-outer_else : SpellsStatement (IfElse (at kinds.Key 0 2) (at kinds.Mark 3 4) (Name (at kinds.Word 4 5)) (at kinds.Mark 5 6) (If (at kinds.Key 7 9) (at kinds.Mark 10 11) (Name (at kinds.Word 11 12)) (at kinds.Mark 12 13) (Evaluates (Name (at kinds.Word 14 15)) (at kinds.Mark 15 16))) (at kinds.Key 17 21) (Evaluates (Name (at kinds.Word 22 23)) (at kinds.Mark 23 24))) (codes "if (a) if (b) x; else y;") (at kinds.Key 0 2 ∷ at kinds.Mark 3 4 ∷ at kinds.Word 4 5 ∷ at kinds.Mark 5 6 ∷ at kinds.Key 7 9 ∷ at kinds.Mark 10 11 ∷ at kinds.Word 11 12 ∷ at kinds.Mark 12 13 ∷ at kinds.Word 14 15 ∷ at kinds.Mark 15 16 ∷ at kinds.Key 17 21 ∷ at kinds.Word 22 23 ∷ at kinds.Mark 23 24 ∷ []) ([]) → ⊥
+outer_else : SpellsStatement (IfElse (at kinds.Key 0 2) (at kinds.Mark 3 4) (Name (at kinds.Word 4 5)) (at kinds.Mark 5 6) (If (at kinds.Key 7 9) (at kinds.Mark 10 11) (Name (at kinds.Word 11 12)) (at kinds.Mark 12 13) (ExpressionStatement (Name (at kinds.Word 14 15)) (at kinds.Mark 15 16))) (at kinds.Key 17 21) (ExpressionStatement (Name (at kinds.Word 22 23)) (at kinds.Mark 23 24))) (codes "if (a) if (b) x; else y;") (at kinds.Key 0 2 ∷ at kinds.Mark 3 4 ∷ at kinds.Word 4 5 ∷ at kinds.Mark 5 6 ∷ at kinds.Key 7 9 ∷ at kinds.Mark 10 11 ∷ at kinds.Word 11 12 ∷ at kinds.Mark 12 13 ∷ at kinds.Word 14 15 ∷ at kinds.Mark 15 16 ∷ at kinds.Key 17 21 ∷ at kinds.Word 22 23 ∷ at kinds.Mark 23 24 ∷ []) ([]) → ⊥
 outer_else h = false≢true (sym h.fits.2)
 
 -- `switch (a) { default: x; }`: what stands behind a label in the block of a `switch` stays in it (6.8.1, 6.8.4.2)
-default_kept : SpellsStatement (Switch (at kinds.Key 0 6) (at kinds.Mark 7 8) (Name (at kinds.Word 8 9)) (at kinds.Mark 9 10) (Block (at kinds.Mark 11 12) (Doing (Default (at kinds.Key 13 20) (at kinds.Mark 20 21) (Evaluates (Name (at kinds.Word 22 23)) (at kinds.Mark 23 24))) NoItems) (at kinds.Mark 25 26))) (codes "switch (a) { default: x; }") (at kinds.Key 0 6 ∷ at kinds.Mark 7 8 ∷ at kinds.Word 8 9 ∷ at kinds.Mark 9 10 ∷ at kinds.Mark 11 12 ∷ at kinds.Key 13 20 ∷ at kinds.Mark 20 21 ∷ at kinds.Word 22 23 ∷ at kinds.Mark 23 24 ∷ at kinds.Mark 25 26 ∷ []) ([])
+default_kept : SpellsStatement (Switch (at kinds.Key 0 6) (at kinds.Mark 7 8) (Name (at kinds.Word 8 9)) (at kinds.Mark 9 10) (Block (at kinds.Mark 11 12) (StatementItem (Default (at kinds.Key 13 20) (at kinds.Mark 20 21) (ExpressionStatement (Name (at kinds.Word 22 23)) (at kinds.Mark 23 24))) NoBlockItems) (at kinds.Mark 25 26))) (codes "switch (a) { default: x; }") (at kinds.Key 0 6 ∷ at kinds.Mark 7 8 ∷ at kinds.Word 8 9 ∷ at kinds.Mark 9 10 ∷ at kinds.Mark 11 12 ∷ at kinds.Key 13 20 ∷ at kinds.Mark 20 21 ∷ at kinds.Word 22 23 ∷ at kinds.Mark 23 24 ∷ at kinds.Mark 25 26 ∷ []) ([])
 default_kept = record { tokens_are = refl; fits = search arith; nests = omega arith }
 
 -- `int (*f(void))(int);`: a function without parameters that returns a pointer to a function (6.7.5.3)
@@ -34,5 +34,5 @@ designated : SpellsDeclaration InFile (Declares (Word (at kinds.Key 0 5) (Struct
 designated = record { tokens_are = refl; fits = search arith; nests = omega arith }
 
 -- `typedef int t; struct s { t t; };`: a name that a declaration makes a typedef name is a type behind it, and a member may be called so too (6.2.3, 6.7.7)
-member_of_type : SpellsFile (Outside (Declares (Word (at kinds.Key 0 7) (Word (at kinds.Key 8 11) NoSpecifiers)) (Named [] (at kinds.Word 12 13) NoDims) (Plainly NoMoreDeclared) (at kinds.Mark 13 14)) ∷ Outside (Bare (Struct (at kinds.Key 15 21) (Some (at kinds.Word 22 23)) (at kinds.Mark 24 25) (Member (TypedefName (at kinds.Word 26 27) NoSpecifiers) (Named [] (at kinds.Word 28 29) NoDims) NoDeclarators (at kinds.Mark 29 30) NoMembers) (at kinds.Mark 31 32) NoSpecifiers) (at kinds.Mark 32 33)) ∷ []) (codes "typedef int t; struct s { t t; };") (at kinds.Key 0 7 ∷ at kinds.Key 8 11 ∷ at kinds.Word 12 13 ∷ at kinds.Mark 13 14 ∷ at kinds.Key 15 21 ∷ at kinds.Word 22 23 ∷ at kinds.Mark 24 25 ∷ at kinds.Word 26 27 ∷ at kinds.Word 28 29 ∷ at kinds.Mark 29 30 ∷ at kinds.Mark 31 32 ∷ at kinds.Mark 32 33 ∷ [])
+member_of_type : SpellsFile (FileDeclaration (Declares (Word (at kinds.Key 0 7) (Word (at kinds.Key 8 11) NoSpecifiers)) (Named [] (at kinds.Word 12 13) NoDims) (Plainly NoMoreDeclared) (at kinds.Mark 13 14)) ∷ FileDeclaration (Bare (Struct (at kinds.Key 15 21) (Some (at kinds.Word 22 23)) (at kinds.Mark 24 25) (Member (TypedefName (at kinds.Word 26 27) NoSpecifiers) (Named [] (at kinds.Word 28 29) NoDims) NoDeclarators (at kinds.Mark 29 30) NoMembers) (at kinds.Mark 31 32) NoSpecifiers) (at kinds.Mark 32 33)) ∷ []) (codes "typedef int t; struct s { t t; };") (at kinds.Key 0 7 ∷ at kinds.Key 8 11 ∷ at kinds.Word 12 13 ∷ at kinds.Mark 13 14 ∷ at kinds.Key 15 21 ∷ at kinds.Word 22 23 ∷ at kinds.Mark 24 25 ∷ at kinds.Word 26 27 ∷ at kinds.Word 28 29 ∷ at kinds.Mark 29 30 ∷ at kinds.Mark 31 32 ∷ at kinds.Mark 32 33 ∷ [])
 member_of_type = record { tokens_are = refl; fits = search arith; nests = omega arith }

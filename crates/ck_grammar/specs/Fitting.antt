@@ -4,7 +4,7 @@ use Rattle.std.specs.Prelude.{◌≡◌, ℕ, ◌≤◌, ◌<◌, Bool, true, fa
 use Rattle.ck_base.specs.declared.tokens.Token.{Token}
 use Rattle.ck_grammar.specs.Specified.{InType, InParameter, stand_together, is_text}
 use Rattle.ck_grammar.specs.Trees as trees
-use Rattle.ck_grammar.specs.Trees.{Expr, Operands, Suffixes, Specifiers, Members, Declarators, Declarator, Dims, Params, MoreParams, Enumerators, Name, Constant, Strings, Paren, Suffixed, Prefixed, SizeofType, Cast, Chain, Choice, Assigned, NoOperands, Operand, NoSuffixes, Index, CallEmpty, Call, Access, Step, NoSpecifiers, TypedefName, Tagged, Struct, Enum, NoMembers, Member, NoDeclarators, Also, Abstract, Named, Nested, NoDims, Open, Sized, Function, NoParams, VoidParams, Parameters, NoMore, Ellipsis, More, LastOne, LastValued, One, Valued}
+use Rattle.ck_grammar.specs.Trees.{Expr, Operands, Suffixes, Specifiers, Members, Declarators, Declarator, Dims, Params, MoreParams, Enumerators, Name, Constant, Strings, Paren, Postfix, Unary, SizeofType, Cast, Chain, Conditional, Assignment, NoOperands, Operand, NoSuffixes, Index, CallEmpty, Call, MemberAccess, PostIncrement, NoSpecifiers, TypedefName, Tagged, Struct, Enum, NoMembers, Member, NoDeclarators, Also, Abstract, Named, Nested, NoDims, Open, Sized, Function, NoParams, VoidParams, Parameters, NoMore, Ellipsis, More, LastOne, LastValued, One, Valued}
 use Rattle.ck_grammar.specs.Words.{Word, Ordinary, Typedef, Number, String, Fixed, is_identifier, Sort, Storage, Qualifier, Inline, TypeWord, StructWord, EnumWord, Star, sort, Lead, NameLead, ConstantLead, StringLead, ParenLead, StepLead, OperatorLead, SizeofLead, NoLead, lead, Follow, Bracket, Parenthesis, Point, Steps, Neighbour, Operator, Nothing, follow}
 
 -- the level of a chain: that of its first operator
@@ -31,13 +31,13 @@ looseness w (Name t) = 0
 looseness w (Constant t) = 0
 looseness w (Strings t ts) = 0
 looseness w (Paren o e c) = 0
-looseness w (Suffixed e s) = 0
-looseness w (Prefixed op e) = 0
+looseness w (Postfix e s) = 0
+looseness w (Unary op e) = 0
 looseness w (SizeofType k o s d c) = 0
 looseness w (Cast o s d c e) = 0
 looseness w (Chain e ops) = chain_level w ops
-looseness w (Choice e q a c b) = 11
-looseness w (Assigned e op b) = 12
+looseness w (Conditional e q a c b) = 11
+looseness w (Assignment e op b) = 12
 
 -- primary expressions (6.5.1)
 abbrev pub is_primary : Expr → Bool
@@ -53,8 +53,8 @@ is_unary (Name t) = true
 is_unary (Constant t) = true
 is_unary (Strings t ts) = true
 is_unary (Paren o e c) = true
-is_unary (Suffixed e s) = true
-is_unary (Prefixed op e) = true
+is_unary (Postfix e s) = true
+is_unary (Unary op e) = true
 is_unary (SizeofType k o s d c) = true
 is_unary _ = false
 
@@ -177,13 +177,13 @@ abbrev mutual
   Fits w (Constant t) = w t ≡ Number
   Fits w (Strings t ts) = (w t ≡ String) × AreStrings w ts
   Fits w (Paren o e c) = (w o ≡ Fixed (codes "(")) × Fits w e × (w c ≡ Fixed (codes ")"))
-  Fits w (Suffixed e s) = (is_primary e ≡ true) × Fits w e × FitsSuffixes w s × (has_suffix s ≡ true)
-  Fits w (Prefixed op e) = Fits w e × (takes (lead (w op)) e (is_tight w) ≡ true)
+  Fits w (Postfix e s) = (is_primary e ≡ true) × Fits w e × FitsSuffixes w s × (has_suffix s ≡ true)
+  Fits w (Unary op e) = Fits w e × (takes (lead (w op)) e (is_tight w) ≡ true)
   Fits w (SizeofType k o s d c) = (w k ≡ Fixed (codes "sizeof")) × (w o ≡ Fixed (codes "(")) × (FitsEach w false s × (stand_together InType w s ≡ true) × FitsDeclarator w NoName d) × (w c ≡ Fixed (codes ")"))
   Fits w (Cast o s d c e) = (w o ≡ Fixed (codes "(")) × (FitsEach w false s × (stand_together InType w s ≡ true) × FitsDeclarator w NoName d) × (w c ≡ Fixed (codes ")")) × Fits w e × (looseness w e ≡ 0)
   Fits w (Chain e ops) = (is_chain_level (chain_level w ops) ≡ true) × Fits w e × (looseness w e < chain_level w ops) × FitsOperands w (chain_level w ops) ops
-  Fits w (Choice e q a c b) = (Fits w e × (looseness w e < 11)) × (w q ≡ Fixed (codes "?")) × Fits w a × (w c ≡ Fixed (codes ":")) × (Fits w b × (looseness w b ≤ 11))
-  Fits w (Assigned e op b) = (Fits w e × (is_unary e ≡ true)) × (follow (w op) ≡ Operator 12) × (Fits w b × (looseness w b ≤ 12))
+  Fits w (Conditional e q a c b) = (Fits w e × (looseness w e < 11)) × (w q ≡ Fixed (codes "?")) × Fits w a × (w c ≡ Fixed (codes ":")) × (Fits w b × (looseness w b ≤ 11))
+  Fits w (Assignment e op b) = (Fits w e × (is_unary e ≡ true)) × (follow (w op) ≡ Operator 12) × (Fits w b × (looseness w b ≤ 12))
 
   -- operators of one level, with operands that bind tighter
   pub FitsOperands : (Token → Word) → ℕ → Operands → Type 0
@@ -195,8 +195,8 @@ abbrev mutual
   FitsSuffixes w (Index o e c rest) = (w o ≡ Fixed (codes "[")) × Fits w e × (w c ≡ Fixed (codes "]")) × FitsSuffixes w rest
   FitsSuffixes w (CallEmpty o c rest) = (w o ≡ Fixed (codes "(")) × (w c ≡ Fixed (codes ")")) × FitsSuffixes w rest
   FitsSuffixes w (Call o e ops c rest) = (w o ≡ Fixed (codes "(")) × (Fits w e × (looseness w e < 13) × FitsOperands w 13 ops) × (w c ≡ Fixed (codes ")")) × FitsSuffixes w rest
-  FitsSuffixes w (Access t n rest) = (follow (w t) ≡ Point) × (is_identifier (w n) ≡ true) × FitsSuffixes w rest
-  FitsSuffixes w (Step t rest) = (follow (w t) ≡ Steps) × FitsSuffixes w rest
+  FitsSuffixes w (MemberAccess t n rest) = (follow (w t) ≡ Point) × (is_identifier (w n) ≡ true) × FitsSuffixes w rest
+  FitsSuffixes w (PostIncrement t rest) = (follow (w t) ≡ Steps) × FitsSuffixes w rest
 
   -- the flag says whether a type stands before these specifiers; then a typedef name is none
   pub FitsEach : (Token → Word) → Bool → Specifiers → Type 0

@@ -2,7 +2,7 @@
 -- one; a declarator of which nothing is written counts none.
 use Rattle.std.specs.Prelude.{ℕ, suc, max, List, [], ◌∷◌}
 use Rattle.ck_base.specs.declared.tokens.Token.{Token}
-use Rattle.ck_grammar.specs.Trees.{Expr, Operands, Suffixes, Specifiers, Members, Declarators, Declarator, Dims, Params, MoreParams, Enumerators, Name, Constant, Strings, Paren, Suffixed, Prefixed, SizeofType, Cast, Chain, Choice, Assigned, NoOperands, Operand, NoSuffixes, Index, CallEmpty, Call, Access, Step, NoSpecifiers, Word, TypedefName, Tagged, Struct, Enum, NoMembers, Member, NoDeclarators, Also, Abstract, Named, Nested, NoDims, Open, Sized, Function, NoParams, VoidParams, Parameters, NoMore, Ellipsis, More, LastOne, LastValued, One, Valued}
+use Rattle.ck_grammar.specs.Trees.{Expr, Operands, Suffixes, Specifiers, Members, Declarators, Declarator, Dims, Params, MoreParams, Enumerators, Name, Constant, Strings, Paren, Postfix, Unary, SizeofType, Cast, Chain, Conditional, Assignment, NoOperands, Operand, NoSuffixes, Index, CallEmpty, Call, MemberAccess, PostIncrement, NoSpecifiers, Word, TypedefName, Tagged, Struct, Enum, NoMembers, Member, NoDeclarators, Also, Abstract, Named, Nested, NoDims, Open, Sized, Function, NoParams, VoidParams, Parameters, NoMore, Ellipsis, More, LastOne, LastValued, One, Valued}
 
 -- of an abstract declarator with these stars and dimensions that nest so deep: nothing written, nothing counted
 abbrev pub abstract_nesting : List Token → Dims → ℕ → ℕ
@@ -18,13 +18,13 @@ abbrev mutual
   nesting (Constant t) = 1
   nesting (Strings t ts) = 1
   nesting (Paren o e c) = suc (nesting e)
-  nesting (Suffixed e s) = suc (max (nesting e) (suffixes_nesting s))
-  nesting (Prefixed op e) = suc (nesting e)
+  nesting (Postfix e s) = suc (max (nesting e) (suffixes_nesting s))
+  nesting (Unary op e) = suc (nesting e)
   nesting (SizeofType k o s d c) = suc (max (specifiers_nesting s) (declarator_nesting d))
   nesting (Cast o s d c e) = suc (max (max (specifiers_nesting s) (declarator_nesting d)) (nesting e))
   nesting (Chain e ops) = suc (max (nesting e) (operands_nesting ops))
-  nesting (Choice e q a c b) = suc (max (nesting e) (max (nesting a) (nesting b)))
-  nesting (Assigned e op b) = suc (max (nesting e) (nesting b))
+  nesting (Conditional e q a c b) = suc (max (nesting e) (max (nesting a) (nesting b)))
+  nesting (Assignment e op b) = suc (max (nesting e) (nesting b))
 
   pub operands_nesting : Operands → ℕ
   operands_nesting NoOperands = 0
@@ -35,8 +35,8 @@ abbrev mutual
   suffixes_nesting (Index o e c rest) = max (nesting e) (suffixes_nesting rest)
   suffixes_nesting (CallEmpty o c rest) = suffixes_nesting rest
   suffixes_nesting (Call o e ops c rest) = max (max (nesting e) (operands_nesting ops)) (suffixes_nesting rest)
-  suffixes_nesting (Access t n rest) = suffixes_nesting rest
-  suffixes_nesting (Step t rest) = suffixes_nesting rest
+  suffixes_nesting (MemberAccess t n rest) = suffixes_nesting rest
+  suffixes_nesting (PostIncrement t rest) = suffixes_nesting rest
 
   pub specifiers_nesting : Specifiers → ℕ
   specifiers_nesting NoSpecifiers = 0

@@ -5,7 +5,7 @@ use Rattle.ck_base.specs.declared.tokens.Token.{Token}
 use Rattle.ck_grammar.specs.Fitting.{chain_level_of, is_unary, takes, is_tight, has_suffix}
 use Rattle.ck_grammar.specs.Nesting.{nesting}
 use Rattle.ck_grammar.specs.Readers.{Read, Reader, then_read, behind, onto, or_else}
-use Rattle.ck_grammar.specs.Trees.{Expr, Operands, Suffixes, Specifiers, Declarator, Name, Constant, Strings, Paren, Suffixed, Prefixed, SizeofType, Cast, Chain, Choice, Assigned, NoOperands, Operand, NoSuffixes, Index, CallEmpty, Call, Access, Step}
+use Rattle.ck_grammar.specs.Trees.{Expr, Operands, Suffixes, Specifiers, Declarator, Name, Constant, Strings, Paren, Postfix, Unary, SizeofType, Cast, Chain, Conditional, Assignment, NoOperands, Operand, NoSuffixes, Index, CallEmpty, Call, MemberAccess, PostIncrement}
 use Rattle.ck_grammar.specs.Words.{Word, Ordinary, Typedef, Number, String, Fixed, is_identifier, sort, begins_type, Lead, NameLead, ConstantLead, StringLead, ParenLead, StepLead, OperatorLead, SizeofLead, NoLead, lead, Follow, Bracket, Parenthesis, Point, Steps, Neighbour, Operator, Nothing, follow}
 
 abbrev pub is_string : Word → Bool
@@ -58,7 +58,7 @@ begins_operand w (t ∷ ts) = begins_lead (lead (w t))
 
 abbrev pub access : (Token → Word) → (List Token → Suffixes × List Token) → Token → List Token → Suffixes × List Token
 access w go t [] = (NoSuffixes, t ∷ [])
-access w go t (n ∷ ts) = if is_identifier (w n) then onto (Access t n) (go ts) else (NoSuffixes, t ∷ n ∷ ts)
+access w go t (n ∷ ts) = if is_identifier (w n) then onto (MemberAccess t n) (go ts) else (NoSuffixes, t ∷ n ∷ ts)
 
 abbrev pub call : (Token → Word) → (ℕ → Reader Expr) → (List Token → Suffixes × List Token) → Token → Reader Suffixes
 call w p go t ts =
@@ -70,7 +70,7 @@ abbrev pub suffix_by : (Token → Word) → (ℕ → Reader Expr) → (List Toke
 suffix_by w p go Bracket t ts = or_else (NoSuffixes, t ∷ ts) (then_read (p 13 ts) (λ e r. behind w (codes "]") r (λ c r'. Some (onto (Index t e c) (go r')))))
 suffix_by w p go Parenthesis t ts = or_else (NoSuffixes, t ∷ ts) (call w p go t ts)
 suffix_by w p go Point t ts = access w go t ts
-suffix_by w p go Steps t ts = onto (Step t) (go ts)
+suffix_by w p go Steps t ts = onto (PostIncrement t) (go ts)
 suffix_by w p go Neighbour t ts = (NoSuffixes, t ∷ ts)
 suffix_by w p go (Operator k) t ts = (NoSuffixes, t ∷ ts)
 suffix_by w p go Nothing t ts = (NoSuffixes, t ∷ ts)
@@ -81,7 +81,7 @@ suffix_loop w p (suc f) [] = (NoSuffixes, [])
 suffix_loop w p (suc f) (t ∷ ts) = suffix_by w p (suffix_loop w p f) (follow (w t)) t ts
 
 abbrev pub suffixed : Expr → Suffixes × List Token → Expr × List Token
-suffixed e x = if has_suffix x.0 then (Suffixed e x.0, x.1) else (e, x.1)
+suffixed e x = if has_suffix x.0 then (Postfix e x.0, x.1) else (e, x.1)
 
 abbrev pub postfix_behind : (Token → Word) → (ℕ → Reader Expr) → ℕ → Expr → List Token → Expr × List Token
 postfix_behind w p n e r = if nat_le (nesting e) n then suffixed e (suffix_loop w p (length r) r) else (e, r)
@@ -100,7 +100,7 @@ opens_type w (t ∷ []) = false
 opens_type w (t ∷ u ∷ ts) = is_paren (lead (w t)) && begins_type (sort (w u))
 
 abbrev pub prefixed : (Token → Word) → (ℕ → Reader Expr) → Lead → Token → Reader Expr
-prefixed w p l t ts = then_read (p 0 ts) (λ e r. if takes l e (is_tight w) then Some (Prefixed t e, r) else None)
+prefixed w p l t ts = then_read (p 0 ts) (λ e r. if takes l e (is_tight w) then Some (Unary t e, r) else None)
 
 abbrev pub in_parens : {B : Type 0} → (Token → Word) → Reader (Specifiers × Declarator) → List Token → (Token → Specifiers → Declarator → Token → List Token → Option B) → Option B
 in_parens w ty ts go = behind w (codes "(") ts (λ o r. then_read (ty r) (λ x r'. behind w (codes ")") r' (λ c r''. go o x.0 x.1 c r'')))
@@ -140,14 +140,14 @@ abbrev pub choice : (Token → Word) → (ℕ → Reader Expr) → Expr → List
 choice w p e [] = (e, [])
 choice w p e (q ∷ ts) =
     if nat_eq (chain_level_of (follow (w q))) 11
-    then or_else (e, q ∷ ts) (then_read (p 13 ts) (λ a r. behind w (codes ":") r (λ c r'. then_read (p 11 r') (λ b r''. Some (Choice e q a c b, r'')))))
+    then or_else (e, q ∷ ts) (then_read (p 13 ts) (λ a r. behind w (codes ":") r (λ c r'. then_read (p 11 r') (λ b r''. Some (Conditional e q a c b, r'')))))
     else (e, q ∷ ts)
 
 abbrev pub assigned : (Token → Word) → (ℕ → Reader Expr) → Expr → List Token → Expr × List Token
 assigned w p e [] = (e, [])
 assigned w p e (op ∷ ts) =
     if nat_eq (chain_level_of (follow (w op))) 12 && is_unary e
-    then or_else (e, op ∷ ts) (then_read (p 12 ts) (λ b r. Some (Assigned e op b, r)))
+    then or_else (e, op ∷ ts) (then_read (p 12 ts) (λ b r. Some (Assignment e op b, r)))
     else (e, op ∷ ts)
 
 -- what an expression is the left end of, at the level behind j

@@ -9,7 +9,7 @@ use Rattle.ck_grammar.specs.ReadingExpressions.{begins_operand}
 use Rattle.ck_grammar.specs.ReadingTypes.{begins_with}
 use Rattle.ck_grammar.specs.Specified.{Place, InBlock, InFile, is_text}
 use Rattle.ck_grammar.specs.Spelling.{most}
-use Rattle.ck_grammar.specs.Statements.{Designators, Init, Inits, Declared, MoreDeclared, Declaration, ForStart, Statement, Items, External, Equals, DotName, AtIndex, Value, Braced, LastInit, NextInit, Plainly, Initialised, NoMoreDeclared, AndPlainly, AndInitialised, Bare, Declares, StartEmpty, StartExpr, StartDeclaration, Block, Empty, Evaluates, If, IfElse, Switch, While, Do, For, Case, Default, Label, Goto, Leave, Return, ReturnValue, NoItems, Declaring, Doing, Outside, Defines}
+use Rattle.ck_grammar.specs.Statements.{Designators, Init, Inits, Declared, MoreDeclared, Declaration, ForStart, Statement, BlockItems, External, Equals, DotName, AtIndex, Value, Braced, LastInit, NextInit, Plainly, Initialised, NoMoreDeclared, AndPlainly, AndInitialised, Bare, Declares, StartEmpty, StartExpr, StartDeclaration, Block, Empty, ExpressionStatement, If, IfElse, Switch, While, Do, For, Case, Default, Label, Goto, Jump, Return, ReturnValue, NoBlockItems, DeclarationItem, StatementItem, FileDeclaration, FunctionDefinition}
 use Rattle.ck_grammar.specs.StatementsFitting.{names_behind, is_typedef, shape, Shape, JustName, FunctionShape, OtherShape, external_behind}
 use Rattle.ck_grammar.specs.Trees.{Expr, Specifiers, Declarator}
 use Rattle.ck_grammar.specs.Words.{Word, begins_specifiers, is_identifier, word_of}
@@ -100,20 +100,20 @@ is_label w [] = false
 is_label w (t ∷ ts) = is_identifier (w t) && comes w (codes ":") ts
 
 -- what stands in a block: a label's statement, a declaration where specifiers begin, else a statement
-abbrev pub item : (Token → Word) → Reader Declaration → Reader Statement → (List Token → Items × List Token) → Reader Items
+abbrev pub item : (Token → Word) → Reader Declaration → Reader Statement → (List Token → BlockItems × List Token) → Reader BlockItems
 item w d s go ts =
-    if begins_with w begins_specifiers ts && not (is_label w ts) then then_read (d ts) (λ x r. Some (onto (Declaring x) (go r)))
-    else then_read (s ts) (λ x r. Some (onto (Doing x) (go r)))
+    if begins_with w begins_specifiers ts && not (is_label w ts) then then_read (d ts) (λ x r. Some (onto (DeclarationItem x) (go r)))
+    else then_read (s ts) (λ x r. Some (onto (StatementItem x) (go r)))
 
-abbrev pub item_loop : (Token → Word) → Reader Declaration → Reader Statement → ℕ → List Token → Items × List Token
-item_loop w d s zero ts = (NoItems, ts)
-item_loop w d s (suc f) ts = or_else (NoItems, ts) (item w d s (item_loop w d s f) ts)
+abbrev pub item_loop : (Token → Word) → Reader Declaration → Reader Statement → ℕ → List Token → BlockItems × List Token
+item_loop w d s zero ts = (NoBlockItems, ts)
+item_loop w d s (suc f) ts = or_else (NoBlockItems, ts) (item w d s (item_loop w d s f) ts)
 
 abbrev pub in_test : {B : Type 0} → (Token → Word) → Reader Expr → List Token → (Token → Expr → Token → List Token → Option B) → Option B
 in_test w p ts go = behind w (codes "(") ts (λ o r. then_read (p r) (λ e r'. behind w (codes ")") r' (λ c r''. go o e c r'')))
 
 abbrev pub evaluates : (Token → Word) → Reader Expr → Reader Statement
-evaluates w p ts = then_read (p ts) (λ e r. behind w (codes ";") r (λ semicolon r'. Some (Evaluates e semicolon, r')))
+evaluates w p ts = then_read (p ts) (λ e r. behind w (codes ";") r (λ semicolon r'. Some (ExpressionStatement e semicolon, r')))
 
 abbrev pub statement_by : (Token → Word) → (ℕ → Reader Expr) → Reader Declaration → Reader Statement → Phrase → Token → Reader Statement
 statement_by w p d s NamePhrase t ts =
@@ -138,7 +138,7 @@ statement_by w p d s ForPhrase t ts =
 statement_by w p d s CasePhrase t ts = then_read (p 11 ts) (λ e r. behind w (codes ":") r (λ colon r'. then_read (s r') (λ x r''. Some (Case t e colon x, r''))))
 statement_by w p d s DefaultPhrase t ts = behind w (codes ":") ts (λ colon r. then_read (s r) (λ x r'. Some (Default t colon x, r')))
 statement_by w p d s GotoPhrase t ts = named w ts (λ n r. behind w (codes ";") r (λ semicolon r'. Some (Goto t n semicolon, r')))
-statement_by w p d s LeavePhrase t ts = behind w (codes ";") ts (λ semicolon r. Some (Leave t semicolon, r))
+statement_by w p d s LeavePhrase t ts = behind w (codes ";") ts (λ semicolon r. Some (Jump t semicolon, r))
 statement_by w p d s ReturnPhrase t ts =
     if begins_operand w ts then then_read (p 13 ts) (λ e r. behind w (codes ";") r (λ semicolon r'. Some (ReturnValue t e semicolon, r')))
     else behind w (codes ";") ts (λ semicolon r. Some (Return t semicolon, r))
@@ -157,22 +157,22 @@ is_function FunctionShape = true
 is_function OtherShape = false
 
 -- a body in which no more may nest is read by the statements that nest no deeper
-abbrev pub body_at : List ℕ → List (List ℕ) → ℕ → List Token → Items × List Token
+abbrev pub body_at : List ℕ → List (List ℕ) → ℕ → List Token → BlockItems × List Token
 body_at bytes typedefs n ts = item_loop (word_of bytes typedefs) (declaration_at bytes typedefs n InBlock) (statement_at bytes typedefs n) (length ts) ts
 
 abbrev pub defines : List ℕ → List (List ℕ) → ℕ → Specifiers → Declarator → Reader External
 defines bytes typedefs n s d ts =
     if not (is_typedef (word_of bytes typedefs) s) && is_function (shape d)
-    then behind (word_of bytes typedefs) (codes "{") ts (λ o r. then_read (Some (body_at bytes typedefs n r)) (λ is r'. behind (word_of bytes typedefs) (codes "}") r' (λ c r''. Some (Defines s d o is c, r''))))
+    then behind (word_of bytes typedefs) (codes "{") ts (λ o r. then_read (Some (body_at bytes typedefs n r)) (λ is r'. behind (word_of bytes typedefs) (codes "}") r' (λ c r''. Some (FunctionDefinition s d o is c, r''))))
     else None
 
 abbrev pub external_at : List ℕ → List (List ℕ) → ℕ → Reader External
 external_at bytes typedefs n ts =
     then_read (specifiers_at (word_of bytes typedefs) (suc n) InFile ts) (λ s r.
-    if comes (word_of bytes typedefs) (codes ";") r then behind (word_of bytes typedefs) (codes ";") r (λ semicolon r'. Some (Outside (Bare s semicolon), r'))
+    if comes (word_of bytes typedefs) (codes ";") r then behind (word_of bytes typedefs) (codes ";") r (λ semicolon r'. Some (FileDeclaration (Bare s semicolon), r'))
     else then_read (declarator_at (word_of bytes typedefs) (suc n) NewName r) (λ d r'.
     if comes (word_of bytes typedefs) (codes "{") r' then defines bytes typedefs n s d r'
-    else then_read (declares bytes typedefs (suc n) s d r') (λ x r''. Some (Outside x, r''))))
+    else then_read (declares bytes typedefs (suc n) s d r') (λ x r''. Some (FileDeclaration x, r''))))
 
 abbrev pub then_all : External → Option (List External) → Option (List External)
 then_all x None = None

@@ -48,10 +48,10 @@ mutual
   -- statements (6.8)
   pub data Statement : Type 0 where
     -- `{` items `}` (6.8.2)
-    Block : Token → Items → Token → Statement
+    Block : Token → BlockItems → Token → Statement
     -- `;` and expression `;` (6.8.3)
     Empty : Token → Statement
-    Evaluates : Expr → Token → Statement
+    ExpressionStatement : Expr → Token → Statement
     -- `if` `(` expression `)` statement, and maybe `else` statement (6.8.4.1)
     If : Token → Token → Expr → Token → Statement → Statement
     IfElse : Token → Token → Expr → Token → Statement → Token → Statement → Statement
@@ -69,17 +69,17 @@ mutual
     Label : Token → Token → Statement → Statement
     -- `goto` name `;`, `break` `;`, `continue` `;`, `return` [expression] `;` (6.8.6)
     Goto : Token → Token → Token → Statement
-    Leave : Token → Token → Statement
+    Jump : Token → Token → Statement
     Return : Token → Token → Statement
     ReturnValue : Token → Expr → Token → Statement
 
   -- what stands in a block (6.8.2)
-  pub data Items : Type 0 where
-    NoItems : Items
-    Declaring : Declaration → Items → Items
-    Doing : Statement → Items → Items
+  pub data BlockItems : Type 0 where
+    NoBlockItems : BlockItems
+    DeclarationItem : Declaration → BlockItems → BlockItems
+    StatementItem : Statement → BlockItems → BlockItems
 
 -- external declarations (6.9): declarations, and function definitions with their bodies (6.9.1)
 pub data External : Type 0 where
-  Outside : Declaration → External
-  Defines : Specifiers → Declarator → Token → Items → Token → External
+  FileDeclaration : Declaration → External
+  FunctionDefinition : Specifiers → Declarator → Token → BlockItems → Token → External

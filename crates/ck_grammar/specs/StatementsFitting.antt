@@ -4,7 +4,7 @@ use Rattle.std.specs.Prelude.{◌≡◌, ◌⊎◌, ℕ, ◌≤◌, Bool, true, 
 use Rattle.ck_base.specs.declared.tokens.Token.{Token}
 use Rattle.ck_grammar.specs.Fitting.{Fits, FitsEach, FitsDeclarator, IsComma, NewName, looseness}
 use Rattle.ck_grammar.specs.Specified.{Place, InBlock, InFile, stand_together, is_text}
-use Rattle.ck_grammar.specs.Statements.{Designators, Init, Inits, Declared, MoreDeclared, Declaration, ForStart, Statement, Items, External, Equals, DotName, AtIndex, Value, Braced, LastInit, NextInit, Plainly, Initialised, NoMoreDeclared, AndPlainly, AndInitialised, Bare, Declares, StartEmpty, StartExpr, StartDeclaration, Block, Empty, Evaluates, If, IfElse, Switch, While, Do, For, Case, Default, Label, Goto, Leave, Return, ReturnValue, NoItems, Declaring, Doing, Outside, Defines}
+use Rattle.ck_grammar.specs.Statements.{Designators, Init, Inits, Declared, MoreDeclared, Declaration, ForStart, Statement, BlockItems, External, Equals, DotName, AtIndex, Value, Braced, LastInit, NextInit, Plainly, Initialised, NoMoreDeclared, AndPlainly, AndInitialised, Bare, Declares, StartEmpty, StartExpr, StartDeclaration, Block, Empty, ExpressionStatement, If, IfElse, Switch, While, Do, For, Case, Default, Label, Goto, Jump, Return, ReturnValue, NoBlockItems, DeclarationItem, StatementItem, FileDeclaration, FunctionDefinition}
 use Rattle.ck_grammar.specs.Trees as trees
 use Rattle.ck_grammar.specs.Trees.{Expr, Specifiers, Declarator, Dims, Params, MoreParams, Abstract, Named, Nested, NoDims, Open, Sized, Function, NoParams, VoidParams, Parameters, NoMore, Ellipsis, More}
 use Rattle.ck_grammar.specs.Words.{Word, Fixed, is_identifier, text_of, word_of}
@@ -111,7 +111,7 @@ abbrev mutual
   pub FitsStatement : List ℕ → List (List ℕ) → Statement → Type 0
   FitsStatement bytes typedefs (Block o is c) = (word_of bytes typedefs o ≡ Fixed (codes "{")) × FitsItems bytes typedefs is × (word_of bytes typedefs c ≡ Fixed (codes "}"))
   FitsStatement bytes typedefs (Empty semicolon) = word_of bytes typedefs semicolon ≡ Fixed (codes ";")
-  FitsStatement bytes typedefs (Evaluates e semicolon) = Fits (word_of bytes typedefs) e × (word_of bytes typedefs semicolon ≡ Fixed (codes ";"))
+  FitsStatement bytes typedefs (ExpressionStatement e semicolon) = Fits (word_of bytes typedefs) e × (word_of bytes typedefs semicolon ≡ Fixed (codes ";"))
   FitsStatement bytes typedefs (If k o e c s) = FitsTest (word_of bytes typedefs) (codes "if") k o e c × FitsStatement bytes typedefs s
   FitsStatement bytes typedefs (IfElse k o e c s l t) =
       FitsTest (word_of bytes typedefs) (codes "if") k o e c × FitsStatement bytes typedefs s × (ends_open s ≡ false) × (word_of bytes typedefs l ≡ Fixed (codes "else")) × FitsStatement bytes typedefs t
@@ -127,15 +127,15 @@ abbrev mutual
   FitsStatement bytes typedefs (Default k colon s) = (word_of bytes typedefs k ≡ Fixed (codes "default")) × (word_of bytes typedefs colon ≡ Fixed (codes ":")) × FitsStatement bytes typedefs s
   FitsStatement bytes typedefs (Label t colon s) = (is_identifier (word_of bytes typedefs t) ≡ true) × (word_of bytes typedefs colon ≡ Fixed (codes ":")) × FitsStatement bytes typedefs s
   FitsStatement bytes typedefs (Goto k t semicolon) = (word_of bytes typedefs k ≡ Fixed (codes "goto")) × (is_identifier (word_of bytes typedefs t) ≡ true) × (word_of bytes typedefs semicolon ≡ Fixed (codes ";"))
-  FitsStatement bytes typedefs (Leave k semicolon) = IsLeave (word_of bytes typedefs k) × (word_of bytes typedefs semicolon ≡ Fixed (codes ";"))
+  FitsStatement bytes typedefs (Jump k semicolon) = IsLeave (word_of bytes typedefs k) × (word_of bytes typedefs semicolon ≡ Fixed (codes ";"))
   FitsStatement bytes typedefs (Return k semicolon) = (word_of bytes typedefs k ≡ Fixed (codes "return")) × (word_of bytes typedefs semicolon ≡ Fixed (codes ";"))
   FitsStatement bytes typedefs (ReturnValue k e semicolon) = (word_of bytes typedefs k ≡ Fixed (codes "return")) × Fits (word_of bytes typedefs) e × (word_of bytes typedefs semicolon ≡ Fixed (codes ";"))
 
   -- no typedef name is declared in a block, so its typedef names are those before it
-  pub FitsItems : List ℕ → List (List ℕ) → Items → Type 0
-  FitsItems bytes typedefs NoItems = Unit {0}
-  FitsItems bytes typedefs (Declaring d rest) = FitsDeclaration bytes typedefs InBlock d × FitsItems bytes typedefs rest
-  FitsItems bytes typedefs (Doing s rest) = FitsStatement bytes typedefs s × FitsItems bytes typedefs rest
+  pub FitsItems : List ℕ → List (List ℕ) → BlockItems → Type 0
+  FitsItems bytes typedefs NoBlockItems = Unit {0}
+  FitsItems bytes typedefs (DeclarationItem d rest) = FitsDeclaration bytes typedefs InBlock d × FitsItems bytes typedefs rest
+  FitsItems bytes typedefs (StatementItem s rest) = FitsStatement bytes typedefs s × FitsItems bytes typedefs rest
 
 -- whether parameters end with `...`
 abbrev pub more_ellipsis : MoreParams → Bool
@@ -173,8 +173,8 @@ shape (Nested stars o d c ds) = shape_inside (shape d) (shape_by stars ds)
 
 -- external declarations: a body stands behind a function's declarator, and a declaration of types has none (6.9.1)
 abbrev pub FitsExternal : List ℕ → List (List ℕ) → External → Type 0
-FitsExternal bytes typedefs (Outside d) = FitsDeclaration bytes typedefs InFile d
-FitsExternal bytes typedefs (Defines s d o is c) =
+FitsExternal bytes typedefs (FileDeclaration d) = FitsDeclaration bytes typedefs InFile d
+FitsExternal bytes typedefs (FunctionDefinition s d o is c) =
     (FitsEach (word_of bytes typedefs) false s × (stand_together InFile (word_of bytes typedefs) s ≡ true) × (is_typedef (word_of bytes typedefs) s ≡ false))
     × (FitsDeclarator (word_of bytes typedefs) NewName d × (shape d ≡ FunctionShape)) × (word_of bytes typedefs o ≡ Fixed (codes "{")) × FitsItems bytes typedefs is × (word_of bytes typedefs c ≡ Fixed (codes "}"))
 
@@ -189,10 +189,10 @@ declared_behind types bytes (Plainly rest) typedefs = more_behind types bytes re
 declared_behind types bytes (Initialised eq i rest) typedefs = more_behind types bytes rest typedefs
 
 abbrev pub external_behind : List ℕ → External → List (List ℕ) → List (List ℕ)
-external_behind bytes (Outside (Bare s semicolon)) typedefs = typedefs
-external_behind bytes (Outside (Declares s d rest semicolon)) typedefs =
+external_behind bytes (FileDeclaration (Bare s semicolon)) typedefs = typedefs
+external_behind bytes (FileDeclaration (Declares s d rest semicolon)) typedefs =
     declared_behind (is_typedef (word_of bytes typedefs) s) bytes rest (names_behind (is_typedef (word_of bytes typedefs) s) bytes d typedefs)
-external_behind bytes (Defines s d o is c) typedefs = typedefs
+external_behind bytes (FunctionDefinition s d o is c) typedefs = typedefs
 
 -- a file (6.9)
 abbrev pub FitsFile : List ℕ → List (List ℕ) → List External → Type 0

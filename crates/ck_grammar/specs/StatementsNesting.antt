@@ -2,7 +2,7 @@
 -- body counts one.
 use Rattle.std.specs.Prelude.{ℕ, suc, max, List, [], ◌∷◌, Option, Some, None}
 use Rattle.ck_grammar.specs.Nesting.{nesting, specifiers_nesting, declarator_nesting}
-use Rattle.ck_grammar.specs.Statements.{Designators, Init, Inits, Declared, MoreDeclared, Declaration, ForStart, Statement, Items, External, Equals, DotName, AtIndex, Value, Braced, LastInit, NextInit, Plainly, Initialised, NoMoreDeclared, AndPlainly, AndInitialised, Bare, Declares, StartEmpty, StartExpr, StartDeclaration, Block, Empty, Evaluates, If, IfElse, Switch, While, Do, For, Case, Default, Label, Goto, Leave, Return, ReturnValue, NoItems, Declaring, Doing, Outside, Defines}
+use Rattle.ck_grammar.specs.Statements.{Designators, Init, Inits, Declared, MoreDeclared, Declaration, ForStart, Statement, BlockItems, External, Equals, DotName, AtIndex, Value, Braced, LastInit, NextInit, Plainly, Initialised, NoMoreDeclared, AndPlainly, AndInitialised, Bare, Declares, StartEmpty, StartExpr, StartDeclaration, Block, Empty, ExpressionStatement, If, IfElse, Switch, While, Do, For, Case, Default, Label, Goto, Jump, Return, ReturnValue, NoBlockItems, DeclarationItem, StatementItem, FileDeclaration, FunctionDefinition}
 use Rattle.ck_grammar.specs.Trees.{Expr}
 
 abbrev pub designators_nesting : Designators → ℕ
@@ -49,7 +49,7 @@ abbrev mutual
   pub statement_nesting : Statement → ℕ
   statement_nesting (Block o is c) = suc (items_nesting is)
   statement_nesting (Empty semicolon) = 1
-  statement_nesting (Evaluates e semicolon) = suc (nesting e)
+  statement_nesting (ExpressionStatement e semicolon) = suc (nesting e)
   statement_nesting (If k o e c s) = suc (max (nesting e) (statement_nesting s))
   statement_nesting (IfElse k o e c s l t) = suc (max (nesting e) (max (statement_nesting s) (statement_nesting t)))
   statement_nesting (Switch k o e c s) = suc (max (nesting e) (statement_nesting s))
@@ -60,18 +60,18 @@ abbrev mutual
   statement_nesting (Default k colon s) = suc (statement_nesting s)
   statement_nesting (Label t colon s) = suc (statement_nesting s)
   statement_nesting (Goto k t semicolon) = 1
-  statement_nesting (Leave k semicolon) = 1
+  statement_nesting (Jump k semicolon) = 1
   statement_nesting (Return k semicolon) = 1
   statement_nesting (ReturnValue k e semicolon) = suc (nesting e)
 
-  pub items_nesting : Items → ℕ
-  items_nesting NoItems = 0
-  items_nesting (Declaring d rest) = max (declaration_nesting d) (items_nesting rest)
-  items_nesting (Doing s rest) = max (statement_nesting s) (items_nesting rest)
+  pub items_nesting : BlockItems → ℕ
+  items_nesting NoBlockItems = 0
+  items_nesting (DeclarationItem d rest) = max (declaration_nesting d) (items_nesting rest)
+  items_nesting (StatementItem s rest) = max (statement_nesting s) (items_nesting rest)
 
 abbrev pub external_nesting : External → ℕ
-external_nesting (Outside d) = declaration_nesting d
-external_nesting (Defines s d o is c) = max (max (specifiers_nesting s) (declarator_nesting d)) (suc (items_nesting is))
+external_nesting (FileDeclaration d) = declaration_nesting d
+external_nesting (FunctionDefinition s d o is c) = max (max (specifiers_nesting s) (declarator_nesting d)) (suc (items_nesting is))
 
 abbrev pub file_nesting : List External → ℕ
 file_nesting [] = 0

@@ -1,7 +1,7 @@
 -- The tokens that declarations, statements and files are written with, in order, and more tokens behind them (C99 6.7 to 6.9).
 use Rattle.std.specs.Prelude.{List, [], ◌∷◌, Option, Some, None}
 use Rattle.ck_base.specs.declared.tokens.Token.{Token}
-use Rattle.ck_grammar.specs.Statements.{Designators, Init, Inits, Declared, MoreDeclared, Declaration, ForStart, Statement, Items, External, Equals, DotName, AtIndex, Value, Braced, LastInit, NextInit, Plainly, Initialised, NoMoreDeclared, AndPlainly, AndInitialised, Bare, Declares, StartEmpty, StartExpr, StartDeclaration, Block, Empty, Evaluates, If, IfElse, Switch, While, Do, For, Case, Default, Label, Goto, Leave, Return, ReturnValue, NoItems, Declaring, Doing, Outside, Defines}
+use Rattle.ck_grammar.specs.Statements.{Designators, Init, Inits, Declared, MoreDeclared, Declaration, ForStart, Statement, BlockItems, External, Equals, DotName, AtIndex, Value, Braced, LastInit, NextInit, Plainly, Initialised, NoMoreDeclared, AndPlainly, AndInitialised, Bare, Declares, StartEmpty, StartExpr, StartDeclaration, Block, Empty, ExpressionStatement, If, IfElse, Switch, While, Do, For, Case, Default, Label, Goto, Jump, Return, ReturnValue, NoBlockItems, DeclarationItem, StatementItem, FileDeclaration, FunctionDefinition}
 use Rattle.ck_grammar.specs.Trees.{Expr}
 use Rattle.ck_grammar.specs.Written.{written, specifiers, declarator, optional}
 
@@ -49,7 +49,7 @@ abbrev mutual
   pub statement : Statement → List Token → List Token
   statement (Block o is c) more = o ∷ items is (c ∷ more)
   statement (Empty semicolon) more = semicolon ∷ more
-  statement (Evaluates e semicolon) more = written e (semicolon ∷ more)
+  statement (ExpressionStatement e semicolon) more = written e (semicolon ∷ more)
   statement (If k o e c s) more = k ∷ o ∷ written e (c ∷ statement s more)
   statement (IfElse k o e c s l t) more = k ∷ o ∷ written e (c ∷ statement s (l ∷ statement t more))
   statement (Switch k o e c s) more = k ∷ o ∷ written e (c ∷ statement s more)
@@ -60,18 +60,18 @@ abbrev mutual
   statement (Default k colon s) more = k ∷ colon ∷ statement s more
   statement (Label t colon s) more = t ∷ colon ∷ statement s more
   statement (Goto k t semicolon) more = k ∷ t ∷ semicolon ∷ more
-  statement (Leave k semicolon) more = k ∷ semicolon ∷ more
+  statement (Jump k semicolon) more = k ∷ semicolon ∷ more
   statement (Return k semicolon) more = k ∷ semicolon ∷ more
   statement (ReturnValue k e semicolon) more = k ∷ written e (semicolon ∷ more)
 
-  pub items : Items → List Token → List Token
-  items NoItems more = more
-  items (Declaring d rest) more = declaration d (items rest more)
-  items (Doing s rest) more = statement s (items rest more)
+  pub items : BlockItems → List Token → List Token
+  items NoBlockItems more = more
+  items (DeclarationItem d rest) more = declaration d (items rest more)
+  items (StatementItem s rest) more = statement s (items rest more)
 
 abbrev pub external : External → List Token → List Token
-external (Outside d) more = declaration d more
-external (Defines s d o is c) more = specifiers s (declarator d (o ∷ items is (c ∷ more)))
+external (FileDeclaration d) more = declaration d more
+external (FunctionDefinition s d o is c) more = specifiers s (declarator d (o ∷ items is (c ∷ more)))
 
 -- a file (6.9)
 abbrev pub file : List External → List Token → List Token

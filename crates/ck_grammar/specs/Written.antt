@@ -1,7 +1,7 @@
 -- The tokens that a tree is written with, in order, and more tokens behind them (C99 6.5, 6.7).
 use Rattle.std.specs.Prelude.{List, ◌∷◌, ◌++◌, Option, Some, None}
 use Rattle.ck_base.specs.declared.tokens.Token.{Token}
-use Rattle.ck_grammar.specs.Trees.{Expr, Operands, Suffixes, Specifiers, Members, Declarators, Declarator, Dims, Params, MoreParams, Enumerators, Name, Constant, Strings, Paren, Suffixed, Prefixed, SizeofType, Cast, Chain, Choice, Assigned, NoOperands, Operand, NoSuffixes, Index, CallEmpty, Call, Access, Step, NoSpecifiers, Word, TypedefName, Tagged, Struct, Enum, NoMembers, Member, NoDeclarators, Also, Abstract, Named, Nested, NoDims, Open, Sized, Function, NoParams, VoidParams, Parameters, NoMore, Ellipsis, More, LastOne, LastValued, One, Valued}
+use Rattle.ck_grammar.specs.Trees.{Expr, Operands, Suffixes, Specifiers, Members, Declarators, Declarator, Dims, Params, MoreParams, Enumerators, Name, Constant, Strings, Paren, Postfix, Unary, SizeofType, Cast, Chain, Conditional, Assignment, NoOperands, Operand, NoSuffixes, Index, CallEmpty, Call, MemberAccess, PostIncrement, NoSpecifiers, Word, TypedefName, Tagged, Struct, Enum, NoMembers, Member, NoDeclarators, Also, Abstract, Named, Nested, NoDims, Open, Sized, Function, NoParams, VoidParams, Parameters, NoMore, Ellipsis, More, LastOne, LastValued, One, Valued}
 
 abbrev pub optional : Option Token → List Token → List Token
 optional None more = more
@@ -13,13 +13,13 @@ abbrev mutual
   written (Constant t) more = t ∷ more
   written (Strings t ts) more = t ∷ (ts ++ more)
   written (Paren o e c) more = o ∷ written e (c ∷ more)
-  written (Suffixed e s) more = written e (suffixes s more)
-  written (Prefixed op e) more = op ∷ written e more
+  written (Postfix e s) more = written e (suffixes s more)
+  written (Unary op e) more = op ∷ written e more
   written (SizeofType k o s d c) more = k ∷ o ∷ specifiers s (declarator d (c ∷ more))
   written (Cast o s d c e) more = o ∷ specifiers s (declarator d (c ∷ written e more))
   written (Chain e ops) more = written e (operands ops more)
-  written (Choice e q a c b) more = written e (q ∷ written a (c ∷ written b more))
-  written (Assigned e op b) more = written e (op ∷ written b more)
+  written (Conditional e q a c b) more = written e (q ∷ written a (c ∷ written b more))
+  written (Assignment e op b) more = written e (op ∷ written b more)
 
   pub operands : Operands → List Token → List Token
   operands NoOperands more = more
@@ -30,8 +30,8 @@ abbrev mutual
   suffixes (Index o e c rest) more = o ∷ written e (c ∷ suffixes rest more)
   suffixes (CallEmpty o c rest) more = o ∷ c ∷ suffixes rest more
   suffixes (Call o e ops c rest) more = o ∷ written e (operands ops (c ∷ suffixes rest more))
-  suffixes (Access t n rest) more = t ∷ n ∷ suffixes rest more
-  suffixes (Step t rest) more = t ∷ suffixes rest more
+  suffixes (MemberAccess t n rest) more = t ∷ n ∷ suffixes rest more
+  suffixes (PostIncrement t rest) more = t ∷ suffixes rest more
 
   pub specifiers : Specifiers → List Token → List Token
   specifiers NoSpecifiers more = more

@@ -35,5 +35,5 @@ declaration_tree (Declares specifiers declarator initialiser others semicolon) =
 
 abbrev pub for_start_tree : {A : Type 0} → ForStart A → plain.ForStart
 for_start_tree (start.Empty semicolon) = plain.StartEmpty semicolon
-for_start_tree (start.Evaluates expr semicolon) = plain.StartExpr (expr_tree expr) semicolon
+for_start_tree (start.ExpressionStatement expr semicolon) = plain.StartExpr (expr_tree expr) semicolon
 for_start_tree (start.Declares declaration) = plain.StartDeclaration (declaration_tree declaration)

@@ -24,4 +24,4 @@ pub use expressions::{Expr, Operand, Suffix};
 pub use externals::{External, Unit};
 pub use initialisers::{Designation, Designator, FrontInit, Init};
 pub use specifiers::{Enumerator, FrontEnumerator, Member, Specifier};
-pub use statements::{Item, Stmt};
+pub use statements::{BlockItem, Stmt};
