@@ -9,12 +9,15 @@ use Rattle.ck_grammar.specs.ReadingStatements.{file_at}
 use Rattle.ck_grammar.specs.Spelling.{SpellsFile, most}
 use Rattle.ck_grammar.specs.Statements.{External}
 
-is_file : (bytes : List ℕ) (tokens : List Token) (xs : List External) → IsFile bytes [] most tokens xs → SpellsFile xs bytes tokens
+is_file : (bytes : List ℕ) (tokens : List Token) (xs : List External) → IsFile bytes [] most tokens xs
+    → SpellsFile xs bytes tokens
 is_file bytes tokens xs h = record { tokens_are = h.tokens_are; fits = h.fits; nests = h.nests }
 
-answered : (bytes : List ℕ) (tokens : List Token) (read : Option (List External)) → file_at bytes tokens ≡ read → AnswersFile bytes tokens read
+answered : (bytes : List ℕ) (tokens : List Token) (read : Option (List External)) → file_at bytes tokens ≡ read
+    → AnswersFile bytes tokens read
 answered bytes tokens None is = λ xs h. none-some xs (sym is ∙ spelled_file_is_read bytes tokens xs h)
-answered bytes tokens (Some xs) is = is_file bytes tokens xs (file_is_spelled bytes (most - 1) (length tokens) [] tokens xs is)
+answered bytes tokens (Some xs) is =
+    is_file bytes tokens xs (file_is_spelled bytes (most - 1) (length tokens) [] tokens xs is)
 
 pub reads_files : ReadsFiles
 reads_files bytes tokens = answered bytes tokens (file_at bytes tokens) refl

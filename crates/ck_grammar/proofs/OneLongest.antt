@@ -21,7 +21,8 @@ longer_rest : (ts rest more : List Token) (t : Token) → rest ≡ (t ∷ (ts ++
 longer_rest ts rest more t same lengths = omega (arith, ap length same, lengths, longer_append ts more)
 
 -- what stands before rests of one length is one
-same_front : (ts us rest more : List Token) → (ts ++ rest) ≡ (us ++ more) → length rest ≡ length more → (ts ≡ us) × (rest ≡ more)
+same_front : (ts us rest more : List Token) → (ts ++ rest) ≡ (us ++ more) → length rest ≡ length more → (ts ≡ us)
+    × (rest ≡ more)
 same_front [] [] rest more same lengths = (refl, same)
 same_front [] (u ∷ us) rest more same lengths = absurd (longer_rest us rest more u same lengths)
 same_front (t ∷ ts) [] rest more same lengths = absurd (longer_rest ts more rest t (sym same) (sym lengths))
@@ -31,7 +32,9 @@ same_front (t ∷ ts) (u ∷ us) rest more same lengths =
 
 pub one_longest : OneLongest
 one_longest bytes typedefs tokens e f rest more h k =
-    let same : (written e [] ++ rest) ≡ (written f [] ++ more) = sym (written_appended e [] rest) ∙ h.begins.tokens_are ∙ sym k.begins.tokens_are ∙ written_appended f [] more in
+    let same : (written e [] ++ rest) ≡ (written f [] ++ more) = sym (written_appended e [] rest) ∙ h.begins.tokens_are
+        ∙ sym k.begins.tokens_are ∙ written_appended f [] more in
     let lengths : length rest ≡ length more = omega (arith, h.longest f more k.begins, k.longest e rest h.begins) in
     let both = same_front (written e []) (written f []) rest more same lengths in
-    (one_tree (word_of bytes typedefs) most e f h.begins.fits k.begins.fits h.begins.nests k.begins.nests both.0, both.1)
+    (one_tree (word_of bytes typedefs) most e f h.begins.fits k.begins.fits h.begins.nests k.begins.nests both.0,
+        both.1)

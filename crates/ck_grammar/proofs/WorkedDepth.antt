@@ -1,5 +1,6 @@
 -- How deep a file may nest (C99 6.9), computed on the definitions.
-use Rattle.std.proofs.Common.{◌≡◌, ℕ, ◌+◌, ◌-◌, length, zero, suc, ◌≤◌, Bool, true, ◌&&◌, ap, List, [], ◌∷◌, refl, arith}
+use Rattle.std.proofs.Common.{◌≡◌, ℕ, ◌+◌, ◌-◌, length, zero, suc, ◌≤◌, Bool, true, ◌&&◌, ap, List, [], ◌∷◌, refl,
+    arith}
 use Rattle.std.specs.Prelude.{codes}
 use Rattle.std.proofs.lemmas.Bool.{false≢true}
 use Rattle.std.proofs.lemmas.Slice.Eq.{bytes_eq-Decides}
@@ -28,7 +29,8 @@ abbrev ArePairs : (Token → Words) → List (Token × Token) → Type 0
 ArePairs w [] = Unit {0}
 ArePairs w (p ∷ ps) = (w p.0 ≡ Fixed (codes "(")) × (w p.1 ≡ Fixed (codes ")")) × ArePairs w ps
 
-pairs_fit : (w : Token → Words) (ps : List (Token × Token)) (z : Token) → ArePairs w ps → w z ≡ Number → Fits w (in_pairs ps z)
+pairs_fit : (w : Token → Words) (ps : List (Token × Token)) (z : Token) → ArePairs w ps → w z ≡ Number
+    → Fits w (in_pairs ps z)
 pairs_fit w [] z pairs number = number
 pairs_fit w (p ∷ ps) z pairs number = (pairs.0, pairs_fit w ps z pairs.2 number, pairs.1)
 
@@ -62,9 +64,12 @@ record AreMain (w : Token → Words) (t : MainTokens) : Type 0 where
 -- `int main(void) { ((0)); }` with these pairs of parentheses
 abbrev main_of : MainTokens → List (Token × Token) → List External
 main_of t ps =
-    FunctionDefinition (Word t.int_ NoSpecifiers) (Named [] t.name (Function t.open_ (VoidParams t.void_) t.close NoDims)) t.body (StatementItem (ExpressionStatement (in_pairs ps t.number) t.semicolon) NoBlockItems) t.body_end ∷ []
+    FunctionDefinition (Word t.int_ NoSpecifiers)
+        (Named [] t.name (Function t.open_ (VoidParams t.void_) t.close NoDims)) t.body
+        (StatementItem (ExpressionStatement (in_pairs ps t.number) t.semicolon) NoBlockItems) t.body_end ∷ []
 
-main_fits : (bytes : List ℕ) (t : MainTokens) (ps : List (Token × Token)) → AreMain (word_of bytes []) t → ArePairs (word_of bytes []) ps → FitsFile bytes [] (main_of t ps)
+main_fits : (bytes : List ℕ) (t : MainTokens) (ps : List (Token × Token)) → AreMain (word_of bytes []) t
+    → ArePairs (word_of bytes []) ps → FitsFile bytes [] (main_of t ps)
 main_fits bytes t ps main pairs = (
   (
     ((rw main.is_int refl, tt), rw main.is_int refl, rw main.is_int refl),
@@ -80,13 +85,18 @@ main_nests : (t : MainTokens) (ps : List (Token × Token)) → file_nesting (mai
 main_nests t ps = omega (arith, pairs_nest ps t.number)
 
 -- at most 197 pairs of parentheses in a body are spelled; more are spelled by no file
-main_spelled : (bytes : List ℕ) (t : MainTokens) (ps : List (Token × Token)) → AreMain (word_of bytes []) t → ArePairs (word_of bytes []) ps → length ps ≤ 197 → SpellsFile (main_of t ps) bytes (file (main_of t ps) [])
-main_spelled bytes t ps main pairs few = record { tokens_are = refl; fits = main_fits bytes t ps main pairs; nests = omega (arith, few, main_nests t ps) }
+main_spelled : (bytes : List ℕ) (t : MainTokens) (ps : List (Token × Token)) → AreMain (word_of bytes []) t
+    → ArePairs (word_of bytes []) ps → length ps ≤ 197 → SpellsFile (main_of t ps) bytes (file (main_of t ps) [])
+main_spelled bytes t ps main pairs few =
+    record { tokens_are = refl; fits = main_fits bytes t ps main pairs; nests = omega (arith, few, main_nests t ps) }
 
-main_too_deep : (bytes : List ℕ) (t : MainTokens) (ps : List (Token × Token)) → AreMain (word_of bytes []) t → ArePairs (word_of bytes []) ps
+main_too_deep : (bytes : List ℕ) (t : MainTokens) (ps : List (Token × Token)) → AreMain (word_of bytes []) t
+    → ArePairs (word_of bytes []) ps
     → 198 ≤ length ps → (xs : List External) → SpellsFile xs bytes (file (main_of t ps) []) → ⊥
 main_too_deep bytes t ps main pairs many xs h =
-    let same_file : xs ≡ main_of t ps = one_tree_file bytes (length ps + 2) xs (main_of t ps) h.fits (main_fits bytes t ps main pairs) (omega (arith, h.nests, many)) (omega (arith, main_nests t ps)) h.tokens_are in
+    let same_file : xs ≡ main_of t ps = one_tree_file bytes (length ps + 2) xs (main_of t ps) h.fits
+        (main_fits bytes t ps main pairs) (omega (arith, h.nests, many)) (omega (arith, main_nests t ps))
+        h.tokens_are in
     omega (arith, many, h.nests, ap file_nesting same_file, main_nests t ps)
 
 -- so many pairs, the outer one opened and closed at these bytes and the others inside it
@@ -113,11 +123,8 @@ are_pairs w [] = true
 are_pairs w (p ∷ ps) = is_text (codes "(") (w p.0) && (is_text (codes ")") (w p.1) && are_pairs w ps)
 
 text_is : (text : List ℕ) (word : Words) → is_text text word ≡ true → word ≡ Fixed text
-text_is text Ordinary h = absurd (false≢true h)
-text_is text Typedef h = absurd (false≢true h)
-text_is text Number h = absurd (false≢true h)
-text_is text String h = absurd (false≢true h)
 text_is text (Fixed other) h = ap Fixed ((bytes_eq-Decides other text).0 h)
+text_is text _ h = absurd (false≢true h)
 
 tests_hold : (w : Token → Words) (ps : List (Token × Token)) → are_pairs w ps ≡ true → ArePairs w ps
 tests_hold w [] h = tt
@@ -125,19 +132,28 @@ tests_hold w (p ∷ ps) h =
     let a = is_text (codes "(") (w p.0) in
     let b = is_text (codes ")") (w p.1) in
     let rest = and_right a (b && are_pairs w ps) h in
-    (text_is (codes "(") (w p.0) (and_left a (b && are_pairs w ps) h), text_is (codes ")") (w p.1) (and_left b (are_pairs w ps) rest), tests_hold w ps (and_right b (are_pairs w ps) rest))
+    (text_is (codes "(") (w p.0) (and_left a (b && are_pairs w ps) h), text_is (codes ")") (w p.1)
+        (and_left b (are_pairs w ps) rest), tests_hold w ps (and_right b (are_pairs w ps) rest))
 
 -- `int main(void) { 0; }` with 100 pairs of parentheses round the 0, and with 201
 abbrev text_100 : List ℕ
-text_100 = codes "int main(void) { ((((((((((((((((((((((((((((((((((((((((((((((((((((((((((((((((((((((((((((((((((((((((((((((((((((0)))))))))))))))))))))))))))))))))))))))))))))))))))))))))))))))))))))))))))))))))))))))))))))))))))); }"
+text_100 = codes
+    "int main(void) { ((((((((((((((((((((((((((((((((((((((((((((((((((((((((((((((((((((((((((((((((((((((((((((((((((((0)))))))))))))))))))))))))))))))))))))))))))))))))))))))))))))))))))))))))))))))))))))))))))))))))))); }"
 
 abbrev text_201 : List ℕ
-text_201 = codes "int main(void) { (((((((((((((((((((((((((((((((((((((((((((((((((((((((((((((((((((((((((((((((((((((((((((((((((((((((((((((((((((((((((((((((((((((((((((((((((((((((((((((((((((((((((((((((((((((((((((((((((((((((((0))))))))))))))))))))))))))))))))))))))))))))))))))))))))))))))))))))))))))))))))))))))))))))))))))))))))))))))))))))))))))))))))))))))))))))))))))))))))))))))))))))))))))))))))))))))))))))))))))))))))); }"
+text_201 = codes
+    "int main(void) { (((((((((((((((((((((((((((((((((((((((((((((((((((((((((((((((((((((((((((((((((((((((((((((((((((((((((((((((((((((((((((((((((((((((((((((((((((((((((((((((((((((((((((((((((((((((((((((((((((((((((0))))))))))))))))))))))))))))))))))))))))))))))))))))))))))))))))))))))))))))))))))))))))))))))))))))))))))))))))))))))))))))))))))))))))))))))))))))))))))))))))))))))))))))))))))))))))))))))))))))))))); }"
 
-spelled_100 : SpellsFile (main_of (tokens_at 100) (pairs_at 100 17 217)) text_100 (file (main_of (tokens_at 100) (pairs_at 100 17 217)) [])
-spelled_100 = main_spelled text_100 (tokens_at 100) (pairs_at 100 17 217) (record { is_int = refl; is_name = refl; is_open = refl; is_void = refl; is_close = refl; is_body = refl; is_number = refl; is_semicolon = refl; is_body_end = refl })
+spelled_100 : SpellsFile (main_of (tokens_at 100) (pairs_at 100 17 217)) text_100
+    (file (main_of (tokens_at 100) (pairs_at 100 17 217)) [])
+spelled_100 = main_spelled text_100 (tokens_at 100) (pairs_at 100 17 217)
+    (record { is_int = refl; is_name = refl; is_open = refl; is_void = refl; is_close = refl; is_body = refl;
+    is_number = refl; is_semicolon = refl; is_body_end = refl })
     (tests_hold (word_of text_100 []) (pairs_at 100 17 217) refl) (omega arith)
 
-too_deep_201 : (xs : List External) → SpellsFile xs text_201 (file (main_of (tokens_at 201) (pairs_at 201 17 419)) []) → ⊥
-too_deep_201 = main_too_deep text_201 (tokens_at 201) (pairs_at 201 17 419) (record { is_int = refl; is_name = refl; is_open = refl; is_void = refl; is_close = refl; is_body = refl; is_number = refl; is_semicolon = refl; is_body_end = refl })
+too_deep_201 : (xs : List External) → SpellsFile xs text_201 (file (main_of (tokens_at 201) (pairs_at 201 17 419)) [])
+    → ⊥
+too_deep_201 = main_too_deep text_201 (tokens_at 201) (pairs_at 201 17 419)
+    (record { is_int = refl; is_name = refl; is_open = refl; is_void = refl; is_close = refl; is_body = refl;
+    is_number = refl; is_semicolon = refl; is_body_end = refl })
     (tests_hold (word_of text_201 []) (pairs_at 201 17 419) refl) (omega arith)
