@@ -1,38 +1,11 @@
 -- What is read is spelled so: by how deep it nests.
-use Rattle.std.proofs.Common.{
-  ◌≡◌,
-  ℕ,
-  zero,
-  suc,
-  ◌≤◌,
-  Bool,
-  true,
-  false,
-  cond,
-  List,
-  [],
-  length,
-  Some,
-  None,
-  refl,
-  ap,
-  ◌∙◌,
-  arith,
-}
+use Rattle.std.proofs.Common.{◌≡◌, ℕ, zero, suc, ◌≤◌, Bool, true, false, cond, List, [], length, Some, None, refl, ap}
+use Rattle.std.proofs.Common.{◌∙◌, arith}
 use Rattle.ck_base.specs.declared.tokens.Token.{Token}
 use Rattle.ck_grammar.proofs.ExpressionsSound.{SoundExprs, SoundTypes, IsExpr, IsType, level_sound}
 use Rattle.ck_grammar.proofs.OnRead.{OnRead, SoundReader, on_then}
-use Rattle.ck_grammar.proofs.TypesSound.{
-  GoodSpecifiers,
-  GoodDeclarator,
-  IsSpecifiers,
-  IsDeclarator,
-  specifiers_sound,
-  members_sound,
-  enumerators_sound,
-  params_sound,
-  declarator_sound,
-}
+use Rattle.ck_grammar.proofs.TypesSound.{GoodSpecifiers, GoodDeclarator, IsSpecifiers, IsDeclarator, specifiers_sound}
+use Rattle.ck_grammar.proofs.TypesSound.{members_sound, enumerators_sound, params_sound, declarator_sound}
 use Rattle.ck_grammar.specs.Fitting.{Naming, MemberName, MaybeName, NoName, may_be_abstract}
 use Rattle.ck_grammar.specs.Readers.{Read, Reader}
 use Rattle.ck_grammar.specs.Reading.{expr_at, specifiers_at, declarator_at, type_name}

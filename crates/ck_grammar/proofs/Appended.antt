@@ -1,79 +1,15 @@
 -- A tree before some tokens and more is written as it is before the first of them, and then the others.
 use Rattle.std.proofs.Common.{◌≡◌, List, [], ◌∷◌, ◌++◌, Option, Some, None, refl, ap}
 use Rattle.ck_base.specs.declared.tokens.Token.{Token}
-use Rattle.ck_grammar.specs.Trees.{
-  Expr,
-  Operands,
-  Suffixes,
-  Specifiers,
-  Members,
-  Declarators,
-  Declarator,
-  Dims,
-  Params,
-  MoreParams,
-  Enumerators,
-  Name,
-  Constant,
-  Strings,
-  Paren,
-  Postfix,
-  Unary,
-  SizeofType,
-  Cast,
-  Chain,
-  Conditional,
-  Assignment,
-  NoOperands,
-  Operand,
-  NoSuffixes,
-  Index,
-  CallEmpty,
-  Call,
-  MemberAccess,
-  PostIncrement,
-  NoSpecifiers,
-  Word,
-  TypedefName,
-  Tagged,
-  Struct,
-  Enum,
-  NoMembers,
-  Member,
-  NoDeclarators,
-  Also,
-  Abstract,
-  Named,
-  Nested,
-  NoDims,
-  Open,
-  Sized,
-  Function,
-  NoParams,
-  VoidParams,
-  Parameters,
-  NoMore,
-  Ellipsis,
-  More,
-  LastOne,
-  LastValued,
-  One,
-  Valued,
-}
-use Rattle.ck_grammar.specs.Written.{
-  written,
-  operands,
-  suffixes,
-  specifiers,
-  members,
-  declarators,
-  declarator,
-  dims,
-  params,
-  more_params,
-  enumerators,
-  optional,
-}
+use Rattle.ck_grammar.specs.Trees.{Expr, Operands, Suffixes, Specifiers, Members, Declarators, Declarator, Dims, Params}
+use Rattle.ck_grammar.specs.Trees.{MoreParams, Enumerators, Name, Constant, Strings, Paren, Postfix, Unary, SizeofType}
+use Rattle.ck_grammar.specs.Trees.{Cast, Chain, Conditional, Assignment, NoOperands, Operand, NoSuffixes, Index}
+use Rattle.ck_grammar.specs.Trees.{CallEmpty, Call, MemberAccess, PostIncrement, NoSpecifiers, Word, TypedefName}
+use Rattle.ck_grammar.specs.Trees.{Tagged, Struct, Enum, NoMembers, Member, NoDeclarators, Also, Abstract, Named}
+use Rattle.ck_grammar.specs.Trees.{Nested, NoDims, Open, Sized, Function, NoParams, VoidParams, Parameters, NoMore}
+use Rattle.ck_grammar.specs.Trees.{Ellipsis, More, LastOne, LastValued, One, Valued}
+use Rattle.ck_grammar.specs.Written.{written, operands, suffixes, specifiers, members, declarators, declarator, dims}
+use Rattle.ck_grammar.specs.Written.{params, more_params, enumerators, optional}
 
 append_appended : (ts us more : List Token) → (ts ++ (us ++ more)) ≡ ((ts ++ us) ++ more)
 append_appended [] us more = refl

@@ -7,78 +7,21 @@ use Rattle.ck_grammar.proofs.Lengths.{longer, longer_specifiers, longer_declarat
 use Rattle.ck_grammar.proofs.SpecifiersRead.{ReadsMembers, ReadsEnumerators, ReadsSpecifiers}
 use Rattle.ck_grammar.proofs.Stops.{StopsAt, ReadsAt, at_comma, at_curly}
 use Rattle.ck_grammar.proofs.TypeStops.{StopsBoth, stops_declarator, declarator_ends, specifiers_begin}
-use Rattle.ck_grammar.specs.Fitting.{
-  FitsDeclarators,
-  FitsMembers,
-  FitsEnumerators,
-  FitsParams,
-  FitsMore,
-  IsComma,
-  Naming,
-  MemberName,
-  MaybeName,
-}
-use Rattle.ck_grammar.specs.Nesting.{
-  declarators_nesting,
-  members_nesting,
-  enumerators_nesting,
-  params_nesting,
-  more_params_nesting,
-}
+use Rattle.ck_grammar.specs.Fitting.{FitsDeclarators, FitsMembers, FitsEnumerators, FitsParams, FitsMore, IsComma}
+use Rattle.ck_grammar.specs.Fitting.{Naming, MemberName, MaybeName}
+use Rattle.ck_grammar.specs.Nesting.{declarators_nesting, members_nesting, enumerators_nesting, params_nesting}
+use Rattle.ck_grammar.specs.Nesting.{more_params_nesting}
 use Rattle.ck_grammar.specs.Readers.{Reader}
-use Rattle.ck_grammar.specs.ReadingTypes.{
-  begins_with,
-  declarator_loop,
-  member_loop,
-  members as read_members,
-  is_name,
-  enumerator_end,
-  enumerator_value,
-  enumerators as read_enumerators,
-  more_loop,
-  parameters,
-  params as read_params,
-}
+use Rattle.ck_grammar.specs.ReadingTypes.{begins_with, declarator_loop, member_loop, members as read_members, is_name}
+use Rattle.ck_grammar.specs.ReadingTypes.{enumerator_end, enumerator_value, enumerators as read_enumerators, more_loop}
+use Rattle.ck_grammar.specs.ReadingTypes.{parameters, params as read_params}
 use Rattle.ck_grammar.specs.Specified.{InType, InParameter}
-use Rattle.ck_grammar.specs.Trees.{
-  Expr,
-  Specifiers,
-  Declarator,
-  Declarators,
-  Members,
-  Enumerators,
-  Params,
-  MoreParams,
-  NoSpecifiers,
-  NoMembers,
-  Member,
-  NoDeclarators,
-  Also,
-  Abstract,
-  NoDims,
-  NoParams,
-  VoidParams,
-  Parameters,
-  NoMore,
-  Ellipsis,
-  More,
-  LastOne,
-  LastValued,
-  One,
-  Valued,
-}
+use Rattle.ck_grammar.specs.Trees.{Expr, Specifiers, Declarator, Declarators, Members, Enumerators, Params, MoreParams}
+use Rattle.ck_grammar.specs.Trees.{NoSpecifiers, NoMembers, Member, NoDeclarators, Also, Abstract, NoDims, NoParams}
+use Rattle.ck_grammar.specs.Trees.{VoidParams, Parameters, NoMore, Ellipsis, More, LastOne, LastValued, One, Valued}
 use Rattle.ck_grammar.specs.Words.{begins_specifiers, Word, Fixed}
-use Rattle.ck_grammar.specs.Written.{
-  written,
-  specifiers,
-  declarator,
-  declarators,
-  members,
-  enumerators,
-  params,
-  more_params,
-  optional,
-}
+use Rattle.ck_grammar.specs.Written.{written, specifiers, declarator, declarators, members, enumerators, params}
+use Rattle.ck_grammar.specs.Written.{more_params, optional}
 use Rattle.ck_grammar.specs.Trees as trees
 
 declarators_stop : (w : Token → Word) (naming : Naming) (ds : Declarators) (semicolon : Token) (ts : List Token)

@@ -12,22 +12,8 @@ use Rattle.ck_grammar.specs.Nesting.{nesting, specifiers_nesting, declarator_nes
 use Rattle.ck_grammar.specs.Readers.{Reader}
 use Rattle.ck_grammar.specs.ReadingExpressions.{unary, unary_by, unary_operator, cast, opens_type}
 use Rattle.ck_grammar.specs.Specified.{InType, go_together}
-use Rattle.ck_grammar.specs.Trees.{
-  Expr,
-  Specifiers,
-  Declarator,
-  Name,
-  Constant,
-  Strings,
-  Paren,
-  Postfix,
-  Unary,
-  SizeofType,
-  Cast,
-  Chain,
-  Conditional,
-  Assignment,
-}
+use Rattle.ck_grammar.specs.Trees.{Expr, Specifiers, Declarator, Name, Constant, Strings, Paren, Postfix, Unary}
+use Rattle.ck_grammar.specs.Trees.{SizeofType, Cast, Chain, Conditional, Assignment}
 use Rattle.ck_grammar.specs.Words.{Word, Fixed, Lead, StepLead, OperatorLead, SizeofLead, lead}
 use Rattle.ck_grammar.specs.Written.{written, specifiers, declarator}
 

@@ -1,23 +1,6 @@
 -- Declarations are read as they are written (C99 6.7).
-use Rattle.std.proofs.Common.{
-  ◌≡◌,
-  ℕ,
-  zero,
-  suc,
-  ◌≤◌,
-  Bool,
-  true,
-  false,
-  not,
-  ◌&&◌,
-  List,
-  [],
-  ◌∷◌,
-  length,
-  Some,
-  refl,
-  arith,
-}
+use Rattle.std.proofs.Common.{◌≡◌, ℕ, zero, suc, ◌≤◌, Bool, true, false, not, ◌&&◌, List, [], ◌∷◌, length, Some, refl}
+use Rattle.std.proofs.Common.{arith}
 use Rattle.std.specs.Prelude.{codes}
 use Rattle.std.specs.Str.{bytes_eq}
 use Rattle.std.proofs.lemmas.Bool.{false≢true}
@@ -33,28 +16,12 @@ use Rattle.ck_grammar.proofs.TypeStops.{StopsSpecifiers, StopsDeclarator, star_e
 use Rattle.ck_grammar.specs.Fitting.{FitsDeclarator, NewName, is_star, may_name}
 use Rattle.ck_grammar.specs.Readers.{is_at}
 use Rattle.ck_grammar.specs.Reading.{specifiers_at, declarator_at}
-use Rattle.ck_grammar.specs.ReadingStatements.{
-  init_at,
-  more_declared as read_more_declared,
-  declared as read_declared,
-  declares,
-  declaration_at,
-  is_label,
-}
+use Rattle.ck_grammar.specs.ReadingStatements.{init_at, more_declared as read_more_declared, declared as read_declared}
+use Rattle.ck_grammar.specs.ReadingStatements.{declares, declaration_at, is_label}
 use Rattle.ck_grammar.specs.ReadingTypes.{begins_with}
 use Rattle.ck_grammar.specs.Specified.{Place}
-use Rattle.ck_grammar.specs.Statements.{
-  Declared,
-  MoreDeclared,
-  Declaration,
-  Plainly,
-  Initialised,
-  NoMoreDeclared,
-  AndPlainly,
-  AndInitialised,
-  Bare,
-  Declares,
-}
+use Rattle.ck_grammar.specs.Statements.{Declared, MoreDeclared, Declaration, Plainly, Initialised, NoMoreDeclared}
+use Rattle.ck_grammar.specs.Statements.{AndPlainly, AndInitialised, Bare, Declares}
 use Rattle.ck_grammar.specs.StatementsFitting.{FitsMoreDeclared, FitsDeclared, FitsDeclaration, names_after, is_typedef}
 use Rattle.ck_grammar.specs.StatementsNesting.{more_declared_nesting, declared_nesting, declaration_nesting}
 use Rattle.ck_grammar.specs.StatementsWritten.{init, more_declared, declared, declaration}

@@ -1,28 +1,6 @@
 -- Declarators are read as they are written.
-use Rattle.std.proofs.Common.{
-  ◌≡◌,
-  ℕ,
-  zero,
-  suc,
-  ◌≤◌,
-  Bool,
-  true,
-  false,
-  cond,
-  ◌&&◌,
-  List,
-  [],
-  ◌∷◌,
-  ◌++◌,
-  length,
-  Some,
-  None,
-  refl,
-  sym,
-  ap,
-  ◌∙◌,
-  arith,
-}
+use Rattle.std.proofs.Common.{◌≡◌, ℕ, zero, suc, ◌≤◌, Bool, true, false, cond, ◌&&◌, List, [], ◌∷◌, ◌++◌, length, Some}
+use Rattle.std.proofs.Common.{None, refl, sym, ap, ◌∙◌, arith}
 use Rattle.std.specs.Prelude.{codes}
 use Rattle.std.proofs.lemmas.Bool.{false≢true}
 use Rattle.ck_base.specs.declared.tokens.Token.{Token}
@@ -30,66 +8,18 @@ use Rattle.ck_grammar.proofs.Heads.{begins}
 use Rattle.ck_grammar.proofs.Lengths.{longer, longer_params}
 use Rattle.ck_grammar.proofs.Stops.{ReadsAt, at_square}
 use Rattle.ck_grammar.proofs.TypeStops.{ends, StopsDeclarator, params_begin, no_params_begin}
-use Rattle.ck_grammar.specs.Fitting.{
-  FitsDeclarator,
-  FitsDims,
-  FitsParams,
-  Naming,
-  NewName,
-  MemberName,
-  MaybeName,
-  NoName,
-  may_be_abstract,
-  may_name,
-  is_written,
-  IsPointer,
-  ArePointerParts,
-  is_star,
-  is_pointer_part,
-}
+use Rattle.ck_grammar.specs.Fitting.{FitsDeclarator, FitsDims, FitsParams, Naming, NewName, MemberName, MaybeName}
+use Rattle.ck_grammar.specs.Fitting.{NoName, may_be_abstract, may_name, is_written, IsPointer, ArePointerParts, is_star}
+use Rattle.ck_grammar.specs.Fitting.{is_pointer_part}
 use Rattle.ck_grammar.specs.Nesting.{declarator_nesting, abstract_nesting, dims_nesting, params_nesting}
 use Rattle.ck_grammar.specs.Readers.{Reader, onto}
 use Rattle.ck_grammar.specs.ReadingExpressions.{begins_operand}
-use Rattle.ck_grammar.specs.ReadingTypes.{
-  begins_params,
-  dim_by,
-  dim_loop,
-  pointer_parts,
-  pointer,
-  with_dims,
-  abstract,
-  nested,
-  middle_by,
-  middle,
-  declarator as read_declarator,
-}
-use Rattle.ck_grammar.specs.Trees.{
-  Expr,
-  Declarator,
-  Dims,
-  Params,
-  Abstract,
-  Named,
-  Nested,
-  NoDims,
-  Open,
-  Sized,
-  Function,
-}
-use Rattle.ck_grammar.specs.Words.{
-  Word,
-  Ordinary,
-  Typedef,
-  Number,
-  String,
-  Fixed,
-  sort,
-  Sort,
-  Qualifier,
-  Star,
-  RoundMark,
-  SquareMark,
-}
+use Rattle.ck_grammar.specs.ReadingTypes.{begins_params, dim_by, dim_loop, pointer_parts, pointer, with_dims, abstract}
+use Rattle.ck_grammar.specs.ReadingTypes.{nested, middle_by, middle, declarator as read_declarator}
+use Rattle.ck_grammar.specs.Trees.{Expr, Declarator, Dims, Params, Abstract, Named, Nested, NoDims, Open, Sized}
+use Rattle.ck_grammar.specs.Trees.{Function}
+use Rattle.ck_grammar.specs.Words.{Word, Ordinary, Typedef, Number, String, Fixed, sort, Sort, Qualifier, Star}
+use Rattle.ck_grammar.specs.Words.{RoundMark, SquareMark}
 use Rattle.ck_grammar.specs.Written.{written, declarator, dims, params}
 
 -- the reader reads parameters that nest so deep, before a closing mark

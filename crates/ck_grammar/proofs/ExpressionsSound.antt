@@ -1,126 +1,29 @@
 -- What the readers of expressions read is spelled so, where it is for the readers of what stands inside.
-use Rattle.std.proofs.Common.{
-  ◌≡◌,
-  ℕ,
-  zero,
-  suc,
-  ◌≤◌,
-  true,
-  false,
-  List,
-  [],
-  ◌∷◌,
-  ◌++◌,
-  length,
-  Some,
-  None,
-  nat_eq,
-  nat_le,
-  refl,
-  ap,
-  ◌∙◌,
-  arith,
-}
+use Rattle.std.proofs.Common.{◌≡◌, ℕ, zero, suc, ◌≤◌, true, false, List, [], ◌∷◌, ◌++◌, length, Some, None, nat_eq}
+use Rattle.std.proofs.Common.{nat_le, refl, ap, ◌∙◌, arith}
 use Rattle.std.specs.Prelude.{codes}
 use Rattle.std.proofs.lemmas.Bool.Decides.{nat_tests}
 use Rattle.ck_base.specs.declared.tokens.Token.{Token}
 use Rattle.ck_grammar.proofs.Heads.{primary_is_unary}
 use Rattle.ck_grammar.proofs.Levels.{unary_is_tight}
-use Rattle.ck_grammar.proofs.OnRead.{
-  OnRead,
-  OnPair,
-  IsSpelled,
-  SoundReader,
-  SoundLoop,
-  on_then,
-  by_if,
-  on_else,
-  on_mark,
-  on_identifier,
-  on_guard,
-}
-use Rattle.ck_grammar.proofs.WordsTold.{
-  LeadTells,
-  lead_tells,
-  FollowTells,
-  follow_tells,
-  string_tells,
-  equal,
-  operator_tells,
-  question_tells,
-}
-use Rattle.ck_grammar.specs.Fitting.{
-  Fits,
-  FitsOperands,
-  FitsSuffixes,
-  FitsEach,
-  FitsDeclarator,
-  NoName,
-  AreStrings,
-  operator_level,
-  is_chain_level,
-  precedence,
-  is_primary,
-  is_unary,
-  takes,
-  is_tight,
-}
-use Rattle.ck_grammar.specs.Nesting.{
-  nesting,
-  operands_nesting,
-  suffixes_nesting,
-  specifiers_nesting,
-  declarator_nesting,
-}
+use Rattle.ck_grammar.proofs.OnRead.{OnRead, OnPair, IsSpelled, SoundReader, SoundLoop, on_then, by_if, on_else}
+use Rattle.ck_grammar.proofs.OnRead.{on_mark, on_identifier, on_guard}
+use Rattle.ck_grammar.proofs.WordsTold.{LeadTells, lead_tells, FollowTells, follow_tells, string_tells, equal}
+use Rattle.ck_grammar.proofs.WordsTold.{operator_tells, question_tells}
+use Rattle.ck_grammar.specs.Fitting.{Fits, FitsOperands, FitsSuffixes, FitsEach, FitsDeclarator, NoName, AreStrings}
+use Rattle.ck_grammar.specs.Fitting.{operator_level, is_chain_level, precedence, is_primary, is_unary, takes, is_tight}
+use Rattle.ck_grammar.specs.Nesting.{nesting, operands_nesting, suffixes_nesting, specifiers_nesting}
+use Rattle.ck_grammar.specs.Nesting.{declarator_nesting}
 use Rattle.ck_grammar.specs.Readers.{Read, Reader, ◌>>=◌}
-use Rattle.ck_grammar.specs.ReadingExpressions.{
-  is_string,
-  neighbours,
-  primary_by,
-  operand_loop,
-  begins_operand,
-  call,
-  suffix_by,
-  suffix_loop,
-  suffixed,
-  postfix,
-  opens_type,
-  unary_operator,
-  in_parens,
-  sizeof,
-  unary_by,
-  unary,
-  cast,
-  chained,
-  conditional,
-  assignment,
-  more_by,
-  level_reader,
-  operator,
-}
+use Rattle.ck_grammar.specs.ReadingExpressions.{is_string, neighbours, primary_by, operand_loop, begins_operand, call}
+use Rattle.ck_grammar.specs.ReadingExpressions.{suffix_by, suffix_loop, suffixed, postfix, opens_type, unary_operator}
+use Rattle.ck_grammar.specs.ReadingExpressions.{in_parens, sizeof, unary_by, unary, cast, chained, conditional}
+use Rattle.ck_grammar.specs.ReadingExpressions.{assignment, more_by, level_reader, operator}
 use Rattle.ck_grammar.specs.Specified.{InType, go_together}
 use Rattle.ck_grammar.specs.Trees.{Expr, Operands, Suffixes, Specifiers, Declarator, NoOperands, Operand, NoSuffixes}
-use Rattle.ck_grammar.specs.Words.{
-  Word,
-  Fixed,
-  Lead,
-  NameLead,
-  ConstantLead,
-  StringLead,
-  ParenLead,
-  StepLead,
-  OperatorLead,
-  SizeofLead,
-  NoLead,
-  lead,
-  Follow,
-  Bracket,
-  Parenthesis,
-  Point,
-  Steps,
-  Operator,
-  follow,
-}
+use Rattle.ck_grammar.specs.Words.{Word, Fixed, Lead, NameLead, ConstantLead, StringLead, ParenLead, StepLead}
+use Rattle.ck_grammar.specs.Words.{OperatorLead, SizeofLead, NoLead, lead, Follow, Bracket, Parenthesis, Point, Steps}
+use Rattle.ck_grammar.specs.Words.{Operator, follow}
 use Rattle.ck_grammar.specs.Written.{written, operands, suffixes, specifiers, declarator}
 
 -- what the readers of each kind answer

@@ -1,71 +1,21 @@
 -- External declarations and files are read as they are written (C99 6.9), and so no tokens are spelled by two trees.
-use Rattle.std.proofs.Common.{
-  ◌≡◌,
-  ℕ,
-  ◌-◌,
-  zero,
-  suc,
-  ◌≤◌,
-  true,
-  not,
-  ◌&&◌,
-  List,
-  [],
-  ◌∷◌,
-  length,
-  Option,
-  Some,
-  None,
-  refl,
-  sym,
-  ap,
-  ◌∙◌,
-  arith,
-}
+use Rattle.std.proofs.Common.{◌≡◌, ℕ, ◌-◌, zero, suc, ◌≤◌, true, not, ◌&&◌, List, [], ◌∷◌, length, Option, Some, None}
+use Rattle.std.proofs.Common.{refl, sym, ap, ◌∙◌, arith}
 use Rattle.ck_base.specs.declared.tokens.Token.{Token}
 use Rattle.ck_grammar.proofs.AllRead.{all_read}
-use Rattle.ck_grammar.proofs.DeclarationsRead.{
-  new_name_ends,
-  new_name_comes_not,
-  declares_read,
-  declared_ends,
-  declared_no_body,
-  declaration_read,
-}
+use Rattle.ck_grammar.proofs.DeclarationsRead.{new_name_ends, new_name_comes_not, declares_read, declared_ends}
+use Rattle.ck_grammar.proofs.DeclarationsRead.{declared_no_body, declaration_read}
 use Rattle.ck_grammar.proofs.StatementsLengths.{longer_external, not_empty}
 use Rattle.ck_grammar.proofs.StatementsRead.{statement_read, body_read}
 use Rattle.ck_grammar.specs.Fitting.{NewName}
 use Rattle.ck_grammar.specs.Reading.{specifiers_at, declarator_at}
-use Rattle.ck_grammar.specs.ReadingStatements.{
-  declaration_at,
-  statement_at,
-  is_function,
-  body_at,
-  external_at,
-  file_loop,
-  file_at,
-}
+use Rattle.ck_grammar.specs.ReadingStatements.{declaration_at, statement_at, is_function, body_at, external_at}
+use Rattle.ck_grammar.specs.ReadingStatements.{file_loop, file_at}
 use Rattle.ck_grammar.specs.Specified.{Place, InFile}
-use Rattle.ck_grammar.specs.Spelling.{
-  most,
-  SpellsDeclaration,
-  SpellsStatement,
-  SpellsExternal,
-  SpellsFile,
-  OneDeclaration,
-  OneStatement,
-  OneExternal,
-  OneFile,
-}
-use Rattle.ck_grammar.specs.Statements.{
-  Declaration,
-  Statement,
-  External,
-  Bare,
-  Declares,
-  FileDeclaration,
-  FunctionDefinition,
-}
+use Rattle.ck_grammar.specs.Spelling.{most, SpellsDeclaration, SpellsStatement, SpellsExternal, SpellsFile}
+use Rattle.ck_grammar.specs.Spelling.{OneDeclaration, OneStatement, OneExternal, OneFile}
+use Rattle.ck_grammar.specs.Statements.{Declaration, Statement, External, Bare, Declares, FileDeclaration}
+use Rattle.ck_grammar.specs.Statements.{FunctionDefinition}
 use Rattle.ck_grammar.specs.StatementsFitting.{FitsExternal, FitsFile, names_after, is_typedef, shape, external_after}
 use Rattle.ck_grammar.specs.StatementsNesting.{external_nesting, file_nesting}
 use Rattle.ck_grammar.specs.StatementsWritten.{declared, items, external, file}

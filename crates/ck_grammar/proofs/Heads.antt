@@ -4,41 +4,11 @@ use Rattle.std.proofs.lemmas.Bool.{false≢true}
 use Rattle.ck_base.specs.declared.tokens.Token.{Token}
 use Rattle.ck_grammar.specs.Fitting.{Fits, takes, is_tight, is_primary, is_unary}
 use Rattle.ck_grammar.specs.ReadingExpressions.{begins_operand, opens_type, is_paren}
-use Rattle.ck_grammar.specs.Trees.{
-  Expr,
-  Name,
-  Constant,
-  Strings,
-  Paren,
-  Postfix,
-  Unary,
-  SizeofType,
-  Cast,
-  Chain,
-  Conditional,
-  Assignment,
-}
-use Rattle.ck_grammar.specs.Words.{
-  begins_lead,
-  Word,
-  Typedef,
-  Fixed,
-  Sort,
-  Qualifier,
-  TypeWord,
-  StructWord,
-  EnumWord,
-  TypeName,
-  sort,
-  sort_by,
-  begins_type,
-  begins_specifiers,
-  Lead,
-  ParenLead,
-  NoLead,
-  lead,
-  lead_by,
-}
+use Rattle.ck_grammar.specs.Trees.{Expr, Name, Constant, Strings, Paren, Postfix, Unary, SizeofType, Cast, Chain}
+use Rattle.ck_grammar.specs.Trees.{Conditional, Assignment}
+use Rattle.ck_grammar.specs.Words.{begins_lead, Word, Typedef, Fixed, Sort, Qualifier, TypeWord, StructWord, EnumWord}
+use Rattle.ck_grammar.specs.Words.{TypeName, sort, sort_by, begins_type, begins_specifiers, Lead, ParenLead, NoLead}
+use Rattle.ck_grammar.specs.Words.{lead, lead_by}
 use Rattle.ck_grammar.specs.Written.{written, operands, suffixes, specifiers, declarator}
 
 takes_begins : (l : Lead) (e : Expr) (f : Expr → Bool) → takes l e f ≡ true → begins_lead l ≡ true

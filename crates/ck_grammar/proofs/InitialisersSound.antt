@@ -1,46 +1,13 @@
 -- What the readers of initialisers and declarations read is spelled so.
-use Rattle.std.proofs.Common.{
-  ◌≡◌,
-  ℕ,
-  zero,
-  suc,
-  ◌≤◌,
-  Bool,
-  true,
-  false,
-  ◌&&◌,
-  ◌||◌,
-  not,
-  List,
-  [],
-  ◌∷◌,
-  length,
-  Option,
-  Some,
-  refl,
-  sym,
-  ap,
-  ◌∙◌,
-  arith,
-}
+use Rattle.std.proofs.Common.{◌≡◌, ℕ, zero, suc, ◌≤◌, Bool, true, false, ◌&&◌, ◌||◌, not, List, [], ◌∷◌, length, Option}
+use Rattle.std.proofs.Common.{Some, refl, sym, ap, ◌∙◌, arith}
 use Rattle.std.specs.Prelude.{codes}
 use Rattle.std.proofs.lemmas.Bool.{false≢true}
 use Rattle.ck_base.specs.declared.tokens.Token.{Token}
 use Rattle.ck_grammar.proofs.AllSound.{all_sound}
 use Rattle.ck_grammar.proofs.ExpressionsSound.{GoodExpr, IsExpr}
-use Rattle.ck_grammar.proofs.OnRead.{
-  OnRead,
-  OnPair,
-  IsSpelled,
-  SoundReader,
-  SoundLoop,
-  on_then,
-  by_if,
-  on_else,
-  on_mark,
-  is_fixed,
-  on_identifier,
-}
+use Rattle.ck_grammar.proofs.OnRead.{OnRead, OnPair, IsSpelled, SoundReader, SoundLoop, on_then, by_if, on_else}
+use Rattle.ck_grammar.proofs.OnRead.{on_mark, is_fixed, on_identifier}
 use Rattle.ck_grammar.proofs.TypesSound.{IsSpecifiers, IsDeclarator, not_true}
 use Rattle.ck_grammar.proofs.TypeStops.{and_left}
 use Rattle.ck_grammar.specs.Fitting.{NewName}
@@ -48,53 +15,15 @@ use Rattle.ck_grammar.specs.Readers.{Reader, ◌>>=◌, mark, onto, is_at, ident
 use Rattle.ck_grammar.specs.Reading.{expr_at}
 use Rattle.ck_grammar.specs.ReadingStatements.{designator_loop, init_end, init_by, init_at, declares, declaration_at}
 use Rattle.ck_grammar.specs.Specified.{Place}
-use Rattle.ck_grammar.specs.Statements.{
-  Designators,
-  Init,
-  Inits,
-  Declared,
-  MoreDeclared,
-  Declaration,
-  Equals,
-  DotName,
-  AtIndex,
-  Initialised,
-  NoMoreDeclared,
-  AndPlainly,
-  AndInitialised,
-  Bare,
-  Declares,
-}
-use Rattle.ck_grammar.specs.StatementsFitting.{
-  FitsDesignators,
-  has_designator,
-  FitsDesignation,
-  FitsInit,
-  FitsInits,
-  names_after,
-  is_typedef,
-  FitsMoreDeclared,
-  FitsDeclared,
-  FitsDeclaration,
-}
-use Rattle.ck_grammar.specs.StatementsNesting.{
-  designators_nesting,
-  designation_nesting,
-  init_nesting,
-  inits_nesting,
-  more_declared_nesting,
-  declared_nesting,
-  declaration_nesting,
-}
-use Rattle.ck_grammar.specs.StatementsWritten.{
-  designators,
-  designation,
-  init,
-  inits,
-  more_declared,
-  declared,
-  declaration,
-}
+use Rattle.ck_grammar.specs.Statements.{Designators, Init, Inits, Declared, MoreDeclared, Declaration, Equals, DotName}
+use Rattle.ck_grammar.specs.Statements.{AtIndex, Initialised, NoMoreDeclared, AndPlainly, AndInitialised, Bare}
+use Rattle.ck_grammar.specs.Statements.{Declares}
+use Rattle.ck_grammar.specs.StatementsFitting.{FitsDesignators, has_designator, FitsDesignation, FitsInit, FitsInits}
+use Rattle.ck_grammar.specs.StatementsFitting.{names_after, is_typedef, FitsMoreDeclared, FitsDeclared, FitsDeclaration}
+use Rattle.ck_grammar.specs.StatementsNesting.{designators_nesting, designation_nesting, init_nesting, inits_nesting}
+use Rattle.ck_grammar.specs.StatementsNesting.{more_declared_nesting, declared_nesting, declaration_nesting}
+use Rattle.ck_grammar.specs.StatementsWritten.{designators, designation, init, inits, more_declared, declared}
+use Rattle.ck_grammar.specs.StatementsWritten.{declaration}
 use Rattle.ck_grammar.specs.Trees.{Expr, Specifiers, Declarator}
 use Rattle.ck_grammar.specs.Words.{is_text, Word, Fixed, word_of}
 use Rattle.ck_grammar.specs.Written.{written}

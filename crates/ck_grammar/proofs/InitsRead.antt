@@ -1,24 +1,6 @@
 -- Initialisers are read as they are written (C99 6.7.8).
-use Rattle.std.proofs.Common.{
-  ◌≡◌,
-  ℕ,
-  zero,
-  suc,
-  ◌≤◌,
-  true,
-  false,
-  ◌||◌,
-  List,
-  [],
-  ◌∷◌,
-  length,
-  Option,
-  Some,
-  None,
-  refl,
-  ◌∙◌,
-  arith,
-}
+use Rattle.std.proofs.Common.{◌≡◌, ℕ, zero, suc, ◌≤◌, true, false, ◌||◌, List, [], ◌∷◌, length, Option, Some, None}
+use Rattle.std.proofs.Common.{refl, ◌∙◌, arith}
 use Rattle.std.specs.Prelude.{codes}
 use Rattle.std.specs.Str.{bytes_eq}
 use Rattle.std.proofs.lemmas.Bool.{false≢true}
@@ -33,26 +15,10 @@ use Rattle.ck_grammar.specs.Fitting.{IsComma}
 use Rattle.ck_grammar.specs.Readers.{Reader, ◌>>=◌, is_at}
 use Rattle.ck_grammar.specs.Reading.{expr_at}
 use Rattle.ck_grammar.specs.ReadingExpressions.{begins_operand}
-use Rattle.ck_grammar.specs.ReadingStatements.{
-  designator_loop,
-  designation as read_designation,
-  init_end,
-  inits as read_inits,
-  init_by,
-  init_at,
-}
-use Rattle.ck_grammar.specs.Statements.{
-  Designators,
-  Init,
-  Inits,
-  Equals,
-  DotName,
-  AtIndex,
-  Value,
-  Braced,
-  LastInit,
-  NextInit,
-}
+use Rattle.ck_grammar.specs.ReadingStatements.{designator_loop, designation as read_designation, init_end}
+use Rattle.ck_grammar.specs.ReadingStatements.{inits as read_inits, init_by, init_at}
+use Rattle.ck_grammar.specs.Statements.{Designators, Init, Inits, Equals, DotName, AtIndex, Value, Braced, LastInit}
+use Rattle.ck_grammar.specs.Statements.{NextInit}
 use Rattle.ck_grammar.specs.StatementsFitting.{FitsDesignators, FitsDesignation, FitsInit, FitsInits, has_designator}
 use Rattle.ck_grammar.specs.StatementsNesting.{designators_nesting, designation_nesting, init_nesting, inits_nesting}
 use Rattle.ck_grammar.specs.StatementsWritten.{designators, designation, init, inits}

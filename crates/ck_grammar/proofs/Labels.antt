@@ -4,53 +4,15 @@ use Rattle.std.specs.Prelude.{codes}
 use Rattle.std.proofs.lemmas.Bool.{false≢true}
 use Rattle.ck_base.specs.declared.tokens.Token.{Token}
 use Rattle.ck_grammar.proofs.Texts.{other_word}
-use Rattle.ck_grammar.specs.Fitting.{
-  Fits,
-  FitsOperands,
-  FitsSuffixes,
-  FitsEach,
-  takes,
-  is_tight,
-  is_specifier_word,
-  is_tag_word,
-}
+use Rattle.ck_grammar.specs.Fitting.{Fits, FitsOperands, FitsSuffixes, FitsEach, takes, is_tight, is_specifier_word}
+use Rattle.ck_grammar.specs.Fitting.{is_tag_word}
 use Rattle.ck_grammar.specs.Readers.{is_at}
 use Rattle.ck_grammar.specs.ReadingStatements.{is_label}
 use Rattle.ck_grammar.specs.Specified.{Place, go_together}
-use Rattle.ck_grammar.specs.Trees.{
-  Expr,
-  Operands,
-  Suffixes,
-  Specifiers,
-  Declarator,
-  Name,
-  Constant,
-  Strings,
-  Paren,
-  Postfix,
-  Unary,
-  SizeofType,
-  Cast,
-  Chain,
-  Conditional,
-  Assignment,
-  NoOperands,
-  Operand,
-  NoSuffixes,
-  Index,
-  CallEmpty,
-  Call,
-  MemberAccess,
-  PostIncrement,
-  NoSpecifiers,
-  TypedefName,
-  Tagged,
-  Struct,
-  Enum,
-  Abstract,
-  Named,
-  Nested,
-}
+use Rattle.ck_grammar.specs.Trees.{Expr, Operands, Suffixes, Specifiers, Declarator, Name, Constant, Strings, Paren}
+use Rattle.ck_grammar.specs.Trees.{Postfix, Unary, SizeofType, Cast, Chain, Conditional, Assignment, NoOperands}
+use Rattle.ck_grammar.specs.Trees.{Operand, NoSuffixes, Index, CallEmpty, Call, MemberAccess, PostIncrement}
+use Rattle.ck_grammar.specs.Trees.{NoSpecifiers, TypedefName, Tagged, Struct, Enum, Abstract, Named, Nested}
 use Rattle.ck_grammar.specs.Words.{is_text, Word, Ordinary, Typedef, is_identifier, sort, Follow, Nothing, follow, lead}
 use Rattle.ck_grammar.specs.Written.{written, operands, suffixes, specifiers}
 use Rattle.ck_grammar.specs.Trees as trees

@@ -1,79 +1,15 @@
 -- What is written with more behind it is at least as long.
 use Rattle.std.proofs.Common.{◌≤◌, List, [], ◌∷◌, ◌++◌, length, Option, Some, None, arith}
 use Rattle.ck_base.specs.declared.tokens.Token.{Token}
-use Rattle.ck_grammar.specs.Trees.{
-  Expr,
-  Operands,
-  Suffixes,
-  Specifiers,
-  Members,
-  Declarators,
-  Declarator,
-  Dims,
-  Params,
-  MoreParams,
-  Enumerators,
-  Name,
-  Constant,
-  Strings,
-  Paren,
-  Postfix,
-  Unary,
-  SizeofType,
-  Cast,
-  Chain,
-  Conditional,
-  Assignment,
-  NoOperands,
-  Operand,
-  NoSuffixes,
-  Index,
-  CallEmpty,
-  Call,
-  MemberAccess,
-  PostIncrement,
-  NoSpecifiers,
-  Word,
-  TypedefName,
-  Tagged,
-  Struct,
-  Enum,
-  NoMembers,
-  Member,
-  NoDeclarators,
-  Also,
-  Abstract,
-  Named,
-  Nested,
-  NoDims,
-  Open,
-  Sized,
-  Function,
-  NoParams,
-  VoidParams,
-  Parameters,
-  NoMore,
-  Ellipsis,
-  More,
-  LastOne,
-  LastValued,
-  One,
-  Valued,
-}
-use Rattle.ck_grammar.specs.Written.{
-  written,
-  operands,
-  suffixes,
-  specifiers,
-  members,
-  declarators,
-  declarator,
-  dims,
-  params,
-  more_params,
-  enumerators,
-  optional,
-}
+use Rattle.ck_grammar.specs.Trees.{Expr, Operands, Suffixes, Specifiers, Members, Declarators, Declarator, Dims, Params}
+use Rattle.ck_grammar.specs.Trees.{MoreParams, Enumerators, Name, Constant, Strings, Paren, Postfix, Unary, SizeofType}
+use Rattle.ck_grammar.specs.Trees.{Cast, Chain, Conditional, Assignment, NoOperands, Operand, NoSuffixes, Index}
+use Rattle.ck_grammar.specs.Trees.{CallEmpty, Call, MemberAccess, PostIncrement, NoSpecifiers, Word, TypedefName}
+use Rattle.ck_grammar.specs.Trees.{Tagged, Struct, Enum, NoMembers, Member, NoDeclarators, Also, Abstract, Named}
+use Rattle.ck_grammar.specs.Trees.{Nested, NoDims, Open, Sized, Function, NoParams, VoidParams, Parameters, NoMore}
+use Rattle.ck_grammar.specs.Trees.{Ellipsis, More, LastOne, LastValued, One, Valued}
+use Rattle.ck_grammar.specs.Written.{written, operands, suffixes, specifiers, members, declarators, declarator, dims}
+use Rattle.ck_grammar.specs.Written.{params, more_params, enumerators, optional}
 
 pub longer_append : (ts more : List Token) → length more ≤ length (ts ++ more)
 longer_append [] more = omega arith

@@ -1,27 +1,6 @@
 -- Expressions of every level are read as they are written.
-use Rattle.std.proofs.Common.{
-  ◌≡◌,
-  ℕ,
-  zero,
-  suc,
-  ◌≤◌,
-  Bool,
-  true,
-  false,
-  cond,
-  List,
-  [],
-  ◌∷◌,
-  length,
-  Some,
-  nat_eq,
-  nat_le,
-  refl,
-  ap,
-  arith,
-  inl,
-  inr,
-}
+use Rattle.std.proofs.Common.{◌≡◌, ℕ, zero, suc, ◌≤◌, Bool, true, false, cond, List, [], ◌∷◌, length, Some, nat_eq}
+use Rattle.std.proofs.Common.{nat_le, refl, ap, arith, inl, inr}
 use Rattle.std.proofs.lemmas.Bool.{le-leb, cases_lt}
 use Rattle.std.proofs.lemmas.Bool.Decides.{nat_tests}
 use Rattle.ck_base.specs.declared.tokens.Token.{Token}
@@ -33,22 +12,8 @@ use Rattle.ck_grammar.specs.Fitting.{Fits, FitsOperands, chain_level, precedence
 use Rattle.ck_grammar.specs.Nesting.{nesting}
 use Rattle.ck_grammar.specs.Readers.{Reader}
 use Rattle.ck_grammar.specs.ReadingExpressions.{operand_loop, conditional, assignment, more, level_reader}
-use Rattle.ck_grammar.specs.Trees.{
-  Expr,
-  Specifiers,
-  Declarator,
-  Name,
-  Constant,
-  Strings,
-  Paren,
-  Postfix,
-  Unary,
-  SizeofType,
-  Cast,
-  Chain,
-  Conditional,
-  Assignment,
-}
+use Rattle.ck_grammar.specs.Trees.{Expr, Specifiers, Declarator, Name, Constant, Strings, Paren, Postfix, Unary}
+use Rattle.ck_grammar.specs.Trees.{SizeofType, Cast, Chain, Conditional, Assignment}
 use Rattle.ck_grammar.specs.Words.{Word, follow}
 use Rattle.ck_grammar.specs.Written.{written, operands}
 

@@ -1,43 +1,12 @@
 -- Where an expression is written, whatever stands behind it, the readers read one that leaves no more tokens than it
 -- does.
-use Rattle.std.proofs.Common.{
-  ◌≡◌,
-  ℕ,
-  zero,
-  suc,
-  ◌≤◌,
-  Bool,
-  true,
-  false,
-  cond,
-  List,
-  [],
-  ◌∷◌,
-  ◌++◌,
-  length,
-  Some,
-  None,
-  nat_eq,
-  nat_le,
-  refl,
-  ap,
-  arith,
-  inl,
-  inr,
-}
+use Rattle.std.proofs.Common.{◌≡◌, ℕ, zero, suc, ◌≤◌, Bool, true, false, cond, List, [], ◌∷◌, ◌++◌, length, Some, None}
+use Rattle.std.proofs.Common.{nat_eq, nat_le, refl, ap, arith, inl, inr}
 use Rattle.std.proofs.lemmas.Bool.{false≢true, le-leb, cases_lt}
 use Rattle.ck_base.specs.declared.tokens.Token.{Token}
 use Rattle.ck_grammar.proofs.CastsRead.{ReadsTypes, OpensTypes, prefix_by}
-use Rattle.ck_grammar.proofs.ExpressionsSound.{
-  SoundExprs,
-  SoundTypes,
-  IsExpr,
-  neighbours_sound,
-  operand_loop_sound,
-  suffix_loop_sound,
-  level_sound,
-  on_operator,
-}
+use Rattle.ck_grammar.proofs.ExpressionsSound.{SoundExprs, SoundTypes, IsExpr, neighbours_sound, operand_loop_sound}
+use Rattle.ck_grammar.proofs.ExpressionsSound.{suffix_loop_sound, level_sound, on_operator}
 use Rattle.ck_grammar.proofs.Heads.{begins, no_cast}
 use Rattle.ck_grammar.proofs.Lengths.{longer, longer_append, longer_operands, longer_suffixes}
 use Rattle.ck_grammar.proofs.Levels.{loosest, no_choice, no_assignment, chain_not_tight, unary_is_tight, taken_is_tight}
@@ -46,64 +15,16 @@ use Rattle.ck_grammar.proofs.OnRead.{OnRead, on_then, on_mark, by_if, on_guard}
 use Rattle.ck_grammar.proofs.OperandsRead.{operands_stop, operands_read}
 use Rattle.ck_grammar.proofs.Stops.{StopsAt, Exact, same, at_round, at_square, at_colon, at_question, at_operator}
 use Rattle.ck_grammar.proofs.SuffixesRead.{StopsStrings, no_string, primary_read}
-use Rattle.ck_grammar.specs.Fitting.{
-  Fits,
-  FitsOperands,
-  FitsSuffixes,
-  AreStrings,
-  chain_level,
-  precedence,
-  is_unary,
-  takes,
-  is_tight,
-  has_suffix,
-}
+use Rattle.ck_grammar.specs.Fitting.{Fits, FitsOperands, FitsSuffixes, AreStrings, chain_level, precedence, is_unary}
+use Rattle.ck_grammar.specs.Fitting.{takes, is_tight, has_suffix}
 use Rattle.ck_grammar.specs.Nesting.{nesting, operands_nesting, suffixes_nesting}
 use Rattle.ck_grammar.specs.Readers.{Read, Reader, ◌>>=◌, or_else}
-use Rattle.ck_grammar.specs.ReadingExpressions.{
-  neighbours,
-  operand_loop,
-  suffix_loop,
-  suffixed,
-  postfix_after,
-  begins_operand,
-  opens_type,
-  unary,
-  cast,
-  has_operand,
-  chained,
-  conditional,
-  assignment,
-  more,
-  more_by,
-  level_reader,
-}
-use Rattle.ck_grammar.specs.Trees.{
-  Expr,
-  Operands,
-  Suffixes,
-  Specifiers,
-  Declarator,
-  Name,
-  Constant,
-  Strings,
-  Paren,
-  Postfix,
-  Unary,
-  SizeofType,
-  Cast,
-  Chain,
-  Conditional,
-  Assignment,
-  NoOperands,
-  Operand,
-  NoSuffixes,
-  Index,
-  CallEmpty,
-  Call,
-  MemberAccess,
-  PostIncrement,
-}
+use Rattle.ck_grammar.specs.ReadingExpressions.{neighbours, operand_loop, suffix_loop, suffixed, postfix_after}
+use Rattle.ck_grammar.specs.ReadingExpressions.{begins_operand, opens_type, unary, cast, has_operand, chained}
+use Rattle.ck_grammar.specs.ReadingExpressions.{conditional, assignment, more, more_by, level_reader}
+use Rattle.ck_grammar.specs.Trees.{Expr, Operands, Suffixes, Specifiers, Declarator, Name, Constant, Strings, Paren}
+use Rattle.ck_grammar.specs.Trees.{Postfix, Unary, SizeofType, Cast, Chain, Conditional, Assignment, NoOperands}
+use Rattle.ck_grammar.specs.Trees.{Operand, NoSuffixes, Index, CallEmpty, Call, MemberAccess, PostIncrement}
 use Rattle.ck_grammar.specs.Words.{Word, Lead, StepLead, OperatorLead, SizeofLead, lead}
 use Rattle.ck_grammar.specs.Written.{written, operands, suffixes, specifiers, declarator}
 

@@ -1,87 +1,23 @@
 -- Specifiers are read as they are written.
-use Rattle.std.proofs.Common.{
-  ◌≡◌,
-  ℕ,
-  zero,
-  suc,
-  ◌≤◌,
-  Bool,
-  true,
-  false,
-  cond,
-  not,
-  ◌&&◌,
-  ◌||◌,
-  List,
-  [],
-  ◌∷◌,
-  length,
-  Option,
-  Some,
-  None,
-  refl,
-  ap,
-  ◌∙◌,
-  arith,
-}
+use Rattle.std.proofs.Common.{◌≡◌, ℕ, zero, suc, ◌≤◌, Bool, true, false, cond, not, ◌&&◌, ◌||◌, List, [], ◌∷◌, length}
+use Rattle.std.proofs.Common.{Option, Some, None, refl, ap, ◌∙◌, arith}
 use Rattle.std.specs.Prelude.{codes}
 use Rattle.std.proofs.lemmas.Bool.{false≢true}
 use Rattle.ck_base.specs.declared.tokens.Token.{Token}
 use Rattle.ck_grammar.proofs.Lengths.{longer_members, longer_enumerators, longer_optional}
 use Rattle.ck_grammar.proofs.TypeStops.{ends_specifiers, StopsSpecifiers, and_left}
-use Rattle.ck_grammar.specs.Fitting.{
-  FitsEach,
-  FitsMembers,
-  FitsEnumerators,
-  IsTag,
-  has_member,
-  is_specifier_word,
-  is_tag_word,
-}
+use Rattle.ck_grammar.specs.Fitting.{FitsEach, FitsMembers, FitsEnumerators, IsTag, has_member, is_specifier_word}
+use Rattle.ck_grammar.specs.Fitting.{is_tag_word}
 use Rattle.ck_grammar.specs.Nesting.{specifiers_nesting, members_nesting, enumerators_nesting}
 use Rattle.ck_grammar.specs.Readers.{Reader, onto, ◌>>◌}
-use Rattle.ck_grammar.specs.ReadingTypes.{
-  begins_with,
-  is_curly,
-  specifier_by,
-  specifier_loop,
-  specifiers as read_specifiers,
-}
-use Rattle.ck_grammar.specs.Specified.{
-  is_type_word,
-  Place,
-  go_together,
-  has_one_type,
-  storage_fits,
-  some_word,
-  has_named,
-  has_one_named,
-  texts,
-  combinations,
-  is_combination,
-}
+use Rattle.ck_grammar.specs.ReadingTypes.{begins_with, is_curly, specifier_by, specifier_loop}
+use Rattle.ck_grammar.specs.ReadingTypes.{specifiers as read_specifiers}
+use Rattle.ck_grammar.specs.Specified.{is_type_word, Place, go_together, has_one_type, storage_fits, some_word}
+use Rattle.ck_grammar.specs.Specified.{has_named, has_one_named, texts, combinations, is_combination}
 use Rattle.ck_grammar.specs.Trees.{Specifiers, Members, Enumerators, NoSpecifiers, TypedefName, Tagged, Struct, Enum}
-use Rattle.ck_grammar.specs.Words.{
-  Word,
-  Fixed,
-  is_identifier,
-  sort,
-  Sort,
-  Storage,
-  Qualifier,
-  Inline,
-  TypeWord,
-  StructWord,
-  EnumWord,
-  Plain,
-  TypeName,
-  Star,
-  RoundMark,
-  SquareMark,
-  CurlyMark,
-  CloseMark,
-  Other,
-}
+use Rattle.ck_grammar.specs.Words.{Word, Fixed, is_identifier, sort, Sort, Storage, Qualifier, Inline, TypeWord}
+use Rattle.ck_grammar.specs.Words.{StructWord, EnumWord, Plain, TypeName, Star, RoundMark, SquareMark, CurlyMark}
+use Rattle.ck_grammar.specs.Words.{CloseMark, Other}
 use Rattle.ck_grammar.specs.Written.{specifiers, members, enumerators, optional}
 use Rattle.ck_grammar.specs.Trees as trees
 

@@ -9,49 +9,17 @@ use Rattle.ck_grammar.proofs.Texts.{other_word, operand_comes_not, specifiers_co
 use Rattle.ck_grammar.specs.Phrases.{NamePhrase, JumpPhrase, phrase}
 use Rattle.ck_grammar.specs.Readers.{Reader, is_at}
 use Rattle.ck_grammar.specs.ReadingExpressions.{begins_operand}
-use Rattle.ck_grammar.specs.ReadingStatements.{
-  is_label,
-  expression_statement,
-  statement_by,
-  read_statement,
-  statement_at,
-}
+use Rattle.ck_grammar.specs.ReadingStatements.{is_label, expression_statement, statement_by, read_statement}
+use Rattle.ck_grammar.specs.ReadingStatements.{statement_at}
 use Rattle.ck_grammar.specs.ReadingTypes.{begins_with}
 use Rattle.ck_grammar.specs.Specified.{InBlock}
-use Rattle.ck_grammar.specs.Statements.{
-  Declaration,
-  Statement,
-  BlockItems,
-  Empty,
-  ExpressionStatement,
-  If,
-  IfElse,
-  Switch,
-  While,
-  Label,
-  Jump,
-  NoBlockItems,
-  DeclarationItem,
-  StatementItem,
-}
+use Rattle.ck_grammar.specs.Statements.{Declaration, Statement, BlockItems, Empty, ExpressionStatement, If, IfElse}
+use Rattle.ck_grammar.specs.Statements.{Switch, While, Label, Jump, NoBlockItems, DeclarationItem, StatementItem}
 use Rattle.ck_grammar.specs.StatementsFitting.{FitsStatement, FitsItems, IsJump}
 use Rattle.ck_grammar.specs.StatementsWritten.{declaration, statement, items}
 use Rattle.ck_grammar.specs.Trees.{Expr}
-use Rattle.ck_grammar.specs.Words.{
-  begins_lead,
-  is_text,
-  Word,
-  Ordinary,
-  Typedef,
-  Number,
-  String,
-  Fixed,
-  begins_specifiers,
-  is_identifier,
-  lead,
-  sort,
-  word_of,
-}
+use Rattle.ck_grammar.specs.Words.{begins_lead, is_text, Word, Ordinary, Typedef, Number, String, Fixed}
+use Rattle.ck_grammar.specs.Words.{begins_specifiers, is_identifier, lead, sort, word_of}
 use Rattle.ck_grammar.specs.Written.{written}
 
 pub leave_phrase : (word : Word) → IsJump word → phrase word ≡ JumpPhrase

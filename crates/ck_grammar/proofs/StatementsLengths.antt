@@ -3,70 +3,15 @@ use Rattle.std.proofs.Common.{◌≡◌, suc, ◌≤◌, false, List, [], ◌∷
 use Rattle.ck_base.specs.declared.tokens.Token.{Token}
 use Rattle.ck_grammar.proofs.Lengths.{longer, longer_specifiers, longer_declarator, longer_optional}
 use Rattle.ck_grammar.specs.ReadingStatements.{is_empty}
-use Rattle.ck_grammar.specs.Statements.{
-  Designators,
-  Init,
-  Inits,
-  Declared,
-  MoreDeclared,
-  Declaration,
-  ForStart,
-  Statement,
-  BlockItems,
-  External,
-  Equals,
-  DotName,
-  AtIndex,
-  Value,
-  Braced,
-  LastInit,
-  NextInit,
-  Plainly,
-  Initialised,
-  NoMoreDeclared,
-  AndPlainly,
-  AndInitialised,
-  Bare,
-  Declares,
-  StartEmpty,
-  StartExpr,
-  StartDeclaration,
-  Block,
-  Empty,
-  ExpressionStatement,
-  If,
-  IfElse,
-  Switch,
-  While,
-  Do,
-  For,
-  Case,
-  Default,
-  Label,
-  Goto,
-  Jump,
-  Return,
-  ReturnValue,
-  NoBlockItems,
-  DeclarationItem,
-  StatementItem,
-  FileDeclaration,
-  FunctionDefinition,
-}
-use Rattle.ck_grammar.specs.StatementsWritten.{
-  designators,
-  designation,
-  init,
-  inits,
-  more_declared,
-  declared,
-  declaration,
-  for_start,
-  maybe_written,
-  statement,
-  items,
-  external,
-}
+use Rattle.ck_grammar.specs.Statements.{Designators, Init, Inits, Declared, MoreDeclared, Declaration, ForStart}
+use Rattle.ck_grammar.specs.Statements.{Statement, BlockItems, External, Equals, DotName, AtIndex, Value, Braced}
+use Rattle.ck_grammar.specs.Statements.{LastInit, NextInit, Plainly, Initialised, NoMoreDeclared, AndPlainly}
+use Rattle.ck_grammar.specs.Statements.{AndInitialised, Bare, Declares, StartEmpty, StartExpr, StartDeclaration, Block}
+use Rattle.ck_grammar.specs.Statements.{Empty, ExpressionStatement, If, IfElse, Switch, While, Do, For, Case, Default}
+use Rattle.ck_grammar.specs.Statements.{Label, Goto, Jump, Return, ReturnValue, NoBlockItems, DeclarationItem}
+use Rattle.ck_grammar.specs.Statements.{StatementItem, FileDeclaration, FunctionDefinition}
+use Rattle.ck_grammar.specs.StatementsWritten.{designators, designation, init, inits, more_declared, declared}
+use Rattle.ck_grammar.specs.StatementsWritten.{declaration, for_start, maybe_written, statement, items, external}
 use Rattle.ck_grammar.specs.Trees.{Expr}
 use Rattle.ck_grammar.specs.Written.{written, declarator, optional}
 

@@ -1,25 +1,6 @@
 -- Statements and blocks are read as they are written (C99 6.8).
-use Rattle.std.proofs.Common.{
-  ◌≡◌,
-  ℕ,
-  zero,
-  suc,
-  ◌≤◌,
-  true,
-  false,
-  not,
-  ◌&&◌,
-  List,
-  ◌∷◌,
-  length,
-  Option,
-  Some,
-  None,
-  refl,
-  sym,
-  ◌∙◌,
-  arith,
-}
+use Rattle.std.proofs.Common.{◌≡◌, ℕ, zero, suc, ◌≤◌, true, false, not, ◌&&◌, List, ◌∷◌, length, Option, Some, None}
+use Rattle.std.proofs.Common.{refl, sym, ◌∙◌, arith}
 use Rattle.std.specs.Prelude.{codes}
 use Rattle.std.proofs.lemmas.Bool.{false≢true}
 use Rattle.ck_base.specs.declared.tokens.Token.{Token}
@@ -28,15 +9,8 @@ use Rattle.ck_grammar.proofs.DeclarationsRead.{declaration_read, declaration_beg
 use Rattle.ck_grammar.proofs.Heads.{begins}
 use Rattle.ck_grammar.proofs.Labels.{expression_no_label}
 use Rattle.ck_grammar.proofs.Levels.{loosest}
-use Rattle.ck_grammar.proofs.StatementsHeads.{
-  leave_phrase,
-  name_phrase,
-  operand_no_specifiers,
-  items_no_else,
-  no_declaration,
-  evaluates_read,
-  no_statement_at_curly,
-}
+use Rattle.ck_grammar.proofs.StatementsHeads.{leave_phrase, name_phrase, operand_no_specifiers, items_no_else}
+use Rattle.ck_grammar.proofs.StatementsHeads.{no_declaration, evaluates_read, no_statement_at_curly}
 use Rattle.ck_grammar.proofs.StatementsLengths.{longer_declaration, longer_statement}
 use Rattle.ck_grammar.proofs.Stops.{StopsAt, Exact, at_round, at_colon, at_semicolon}
 use Rattle.ck_grammar.specs.Fitting.{Fits}
@@ -44,61 +18,18 @@ use Rattle.ck_grammar.specs.Nesting.{nesting}
 use Rattle.ck_grammar.specs.Readers.{Reader, is_at}
 use Rattle.ck_grammar.specs.Reading.{expr_at}
 use Rattle.ck_grammar.specs.ReadingExpressions.{begins_operand}
-use Rattle.ck_grammar.specs.ReadingStatements.{
-  is_label,
-  maybe_expr,
-  start,
-  item_loop,
-  read_statement,
-  declaration_at,
-  statement_at,
-  body_at,
-}
+use Rattle.ck_grammar.specs.ReadingStatements.{is_label, maybe_expr, start, item_loop, read_statement, declaration_at}
+use Rattle.ck_grammar.specs.ReadingStatements.{statement_at, body_at}
 use Rattle.ck_grammar.specs.ReadingTypes.{begins_with}
 use Rattle.ck_grammar.specs.Specified.{InBlock}
-use Rattle.ck_grammar.specs.Statements.{
-  Declaration,
-  ForStart,
-  Statement,
-  BlockItems,
-  StartEmpty,
-  StartExpr,
-  StartDeclaration,
-  Block,
-  Empty,
-  ExpressionStatement,
-  If,
-  IfElse,
-  Switch,
-  While,
-  Do,
-  For,
-  Case,
-  Default,
-  Label,
-  Goto,
-  Jump,
-  Return,
-  ReturnValue,
-  NoBlockItems,
-  DeclarationItem,
-  StatementItem,
-}
-use Rattle.ck_grammar.specs.StatementsFitting.{
-  FitsDeclaration,
-  FitsStart,
-  FitsMaybe,
-  FitsStatement,
-  FitsItems,
-  ends_open,
-}
-use Rattle.ck_grammar.specs.StatementsNesting.{
-  declaration_nesting,
-  start_nesting,
-  maybe_nesting,
-  statement_nesting,
-  items_nesting,
-}
+use Rattle.ck_grammar.specs.Statements.{Declaration, ForStart, Statement, BlockItems, StartEmpty, StartExpr}
+use Rattle.ck_grammar.specs.Statements.{StartDeclaration, Block, Empty, ExpressionStatement, If, IfElse, Switch, While}
+use Rattle.ck_grammar.specs.Statements.{Do, For, Case, Default, Label, Goto, Jump, Return, ReturnValue, NoBlockItems}
+use Rattle.ck_grammar.specs.Statements.{DeclarationItem, StatementItem}
+use Rattle.ck_grammar.specs.StatementsFitting.{FitsDeclaration, FitsStart, FitsMaybe, FitsStatement, FitsItems}
+use Rattle.ck_grammar.specs.StatementsFitting.{ends_open}
+use Rattle.ck_grammar.specs.StatementsNesting.{declaration_nesting, start_nesting, maybe_nesting, statement_nesting}
+use Rattle.ck_grammar.specs.StatementsNesting.{items_nesting}
 use Rattle.ck_grammar.specs.StatementsWritten.{declaration, for_start, maybe_written, statement, items}
 use Rattle.ck_grammar.specs.Trees.{Expr}
 use Rattle.ck_grammar.specs.Words.{begins_lead, Word, Fixed, begins_specifiers, lead, word_of}

@@ -1,137 +1,38 @@
 -- What the readers of statements and files read is spelled so.
-use Rattle.std.proofs.Common.{
-  ◌≡◌,
-  ℕ,
-  zero,
-  suc,
-  ◌≤◌,
-  Bool,
-  true,
-  false,
-  ◌&&◌,
-  not,
-  cond,
-  List,
-  [],
-  ◌∷◌,
-  length,
-  Option,
-  Some,
-  None,
-  refl,
-  sym,
-  ap,
-  ◌∙◌,
-  arith,
-}
+use Rattle.std.proofs.Common.{◌≡◌, ℕ, zero, suc, ◌≤◌, Bool, true, false, ◌&&◌, not, cond, List, [], ◌∷◌, length, Option}
+use Rattle.std.proofs.Common.{Some, None, refl, sym, ap, ◌∙◌, arith}
 use Rattle.std.specs.Prelude.{codes}
 use Rattle.std.proofs.lemmas.Bool.{false≢true}
 use Rattle.ck_base.specs.declared.tokens.Token.{Token}
 use Rattle.ck_grammar.proofs.AllSound.{all_sound}
 use Rattle.ck_grammar.proofs.ExpressionsSound.{SoundExprs, GoodExpr, IsExpr}
-use Rattle.ck_grammar.proofs.InitialisersSound.{
-  GoodDeclaration,
-  IsDeclaration,
-  declares_sound,
-  bare_sound,
-  declaration_sound,
-}
-use Rattle.ck_grammar.proofs.OnRead.{
-  OnRead,
-  IsSpelled,
-  SoundReader,
-  SoundLoop,
-  on_then,
-  by_if,
-  on_else,
-  on_mark,
-  on_identifier,
-  on_guard,
-}
+use Rattle.ck_grammar.proofs.InitialisersSound.{GoodDeclaration, IsDeclaration, declares_sound, bare_sound}
+use Rattle.ck_grammar.proofs.InitialisersSound.{declaration_sound}
+use Rattle.ck_grammar.proofs.OnRead.{OnRead, IsSpelled, SoundReader, SoundLoop, on_then, by_if, on_else, on_mark}
+use Rattle.ck_grammar.proofs.OnRead.{on_identifier, on_guard}
 use Rattle.ck_grammar.proofs.TypesSound.{IsSpecifiers, IsDeclarator, not_true}
 use Rattle.ck_grammar.proofs.TypeStops.{and_left, and_right}
 use Rattle.ck_grammar.proofs.WordsTold.{PhraseTells, phrase_tells}
 use Rattle.ck_grammar.specs.Fitting.{NewName}
-use Rattle.ck_grammar.specs.Phrases.{
-  Phrase,
-  NamePhrase,
-  BlockPhrase,
-  ClosePhrase,
-  EmptyPhrase,
-  IfPhrase,
-  ElsePhrase,
-  SwitchPhrase,
-  WhilePhrase,
-  DoPhrase,
-  ForPhrase,
-  CasePhrase,
-  DefaultPhrase,
-  GotoPhrase,
-  JumpPhrase,
-  ReturnPhrase,
-  OtherPhrase,
-  phrase,
-}
+use Rattle.ck_grammar.specs.Phrases.{Phrase, NamePhrase, BlockPhrase, ClosePhrase, EmptyPhrase, IfPhrase, ElsePhrase}
+use Rattle.ck_grammar.specs.Phrases.{SwitchPhrase, WhilePhrase, DoPhrase, ForPhrase, CasePhrase, DefaultPhrase}
+use Rattle.ck_grammar.specs.Phrases.{GotoPhrase, JumpPhrase, ReturnPhrase, OtherPhrase, phrase}
 use Rattle.ck_grammar.specs.Readers.{Read, Reader, ◌>>=◌, mark, is_at}
 use Rattle.ck_grammar.specs.Reading.{expr_at, specifiers_at, declarator_at}
 use Rattle.ck_grammar.specs.ReadingExpressions.{begins_operand}
-use Rattle.ck_grammar.specs.ReadingStatements.{
-  declares,
-  declaration_at,
-  maybe_expr,
-  start,
-  is_label,
-  item,
-  item_loop,
-  controlling,
-  expression_statement,
-  statement_by,
-  read_statement,
-  statement_at,
-  is_function,
-  body_at,
-  defines,
-  external_at,
-  is_empty,
-  file_loop,
-}
+use Rattle.ck_grammar.specs.ReadingStatements.{declares, declaration_at, maybe_expr, start, is_label, item, item_loop}
+use Rattle.ck_grammar.specs.ReadingStatements.{controlling, expression_statement, statement_by, read_statement}
+use Rattle.ck_grammar.specs.ReadingStatements.{statement_at, is_function, body_at, defines, external_at, is_empty}
+use Rattle.ck_grammar.specs.ReadingStatements.{file_loop}
 use Rattle.ck_grammar.specs.ReadingTypes.{begins_with}
 use Rattle.ck_grammar.specs.Specified.{InBlock, InFile}
-use Rattle.ck_grammar.specs.Statements.{
-  Declaration,
-  ForStart,
-  Statement,
-  BlockItems,
-  External,
-  If,
-  IfElse,
-  NoBlockItems,
-}
-use Rattle.ck_grammar.specs.StatementsFitting.{
-  IsJump,
-  FitsStart,
-  FitsMaybe,
-  ends_open,
-  FitsStatement,
-  FitsItems,
-  is_typedef,
-  shape,
-  Shape,
-  JustName,
-  FunctionShape,
-  OtherShape,
-  FitsExternal,
-  external_after,
-  FitsFile,
-}
-use Rattle.ck_grammar.specs.StatementsNesting.{
-  start_nesting,
-  maybe_nesting,
-  statement_nesting,
-  items_nesting,
-  external_nesting,
-  file_nesting,
-}
+use Rattle.ck_grammar.specs.Statements.{Declaration, ForStart, Statement, BlockItems, External, If, IfElse}
+use Rattle.ck_grammar.specs.Statements.{NoBlockItems}
+use Rattle.ck_grammar.specs.StatementsFitting.{IsJump, FitsStart, FitsMaybe, ends_open, FitsStatement, FitsItems}
+use Rattle.ck_grammar.specs.StatementsFitting.{is_typedef, shape, Shape, JustName, FunctionShape, OtherShape}
+use Rattle.ck_grammar.specs.StatementsFitting.{FitsExternal, external_after, FitsFile}
+use Rattle.ck_grammar.specs.StatementsNesting.{start_nesting, maybe_nesting, statement_nesting, items_nesting}
+use Rattle.ck_grammar.specs.StatementsNesting.{external_nesting, file_nesting}
 use Rattle.ck_grammar.specs.StatementsWritten.{for_start, maybe_written, statement, items, external, file, declaration}
 use Rattle.ck_grammar.specs.Trees.{Expr, Specifiers, Declarator}
 use Rattle.ck_grammar.specs.Words.{Word, Fixed, is_identifier, begins_specifiers, word_of}

@@ -1,28 +1,6 @@
 -- Primary expressions and suffixes are read as they are written.
-use Rattle.std.proofs.Common.{
-  ◌≡◌,
-  ℕ,
-  zero,
-  suc,
-  ◌≤◌,
-  ◌<◌,
-  Bool,
-  true,
-  false,
-  cond,
-  List,
-  [],
-  ◌∷◌,
-  ◌++◌,
-  length,
-  Some,
-  nat_le,
-  refl,
-  ◌∙◌,
-  arith,
-  ap,
-  None,
-}
+use Rattle.std.proofs.Common.{◌≡◌, ℕ, zero, suc, ◌≤◌, ◌<◌, Bool, true, false, cond, List, [], ◌∷◌, ◌++◌, length, Some}
+use Rattle.std.proofs.Common.{nat_le, refl, ◌∙◌, arith, ap, None}
 use Rattle.std.proofs.lemmas.Bool.{false≢true, le-leb}
 use Rattle.ck_base.specs.declared.tokens.Token.{Token}
 use Rattle.ck_grammar.proofs.Heads.{begins}
@@ -33,34 +11,10 @@ use Rattle.ck_grammar.proofs.Stops.{StopsAt, Exact, at_round, at_square, loosene
 use Rattle.ck_grammar.specs.Fitting.{Fits, FitsSuffixes, AreStrings, is_primary}
 use Rattle.ck_grammar.specs.Nesting.{nesting, suffixes_nesting}
 use Rattle.ck_grammar.specs.Readers.{Reader, or_else}
-use Rattle.ck_grammar.specs.ReadingExpressions.{
-  operand_loop,
-  suffix_loop,
-  suffix_by,
-  suffixed,
-  postfix_after,
-  unary,
-  neighbours,
-  is_string,
-  begins_operand,
-}
-use Rattle.ck_grammar.specs.Trees.{
-  Expr,
-  Suffixes,
-  Specifiers,
-  Declarator,
-  Name,
-  Constant,
-  Strings,
-  Paren,
-  Postfix,
-  NoSuffixes,
-  Index,
-  CallEmpty,
-  Call,
-  MemberAccess,
-  PostIncrement,
-}
+use Rattle.ck_grammar.specs.ReadingExpressions.{operand_loop, suffix_loop, suffix_by, suffixed, postfix_after, unary}
+use Rattle.ck_grammar.specs.ReadingExpressions.{neighbours, is_string, begins_operand}
+use Rattle.ck_grammar.specs.Trees.{Expr, Suffixes, Specifiers, Declarator, Name, Constant, Strings, Paren, Postfix}
+use Rattle.ck_grammar.specs.Trees.{NoSuffixes, Index, CallEmpty, Call, MemberAccess, PostIncrement}
 use Rattle.ck_grammar.specs.Words.{Word, String, Follow, Neighbour, Operator, Nothing, follow}
 use Rattle.ck_grammar.specs.Written.{written, operands, suffixes}
 

@@ -11,25 +11,8 @@ use Rattle.ck_base.specs.TokenText.{text_of}
 use Rattle.ck_grammar.specs.Readers.{is_at}
 use Rattle.ck_grammar.specs.ReadingExpressions.{begins_operand}
 use Rattle.ck_grammar.specs.ReadingTypes.{begins_with}
-use Rattle.ck_grammar.specs.Words.{
-  begins_lead,
-  is_text,
-  Word,
-  Ordinary,
-  Typedef,
-  Number,
-  String,
-  Fixed,
-  sort,
-  sort_by,
-  begins_specifiers,
-  is_identifier,
-  is_one_of,
-  lead,
-  lead_by,
-  word_by,
-  word_of,
-}
+use Rattle.ck_grammar.specs.Words.{begins_lead, is_text, Word, Ordinary, Typedef, Number, String, Fixed, sort, sort_by}
+use Rattle.ck_grammar.specs.Words.{begins_specifiers, is_identifier, is_one_of, lead, lead_by, word_by, word_of}
 use Prim.Native.String.{String as Line}
 
 -- a word that a test tells from a text is not this text

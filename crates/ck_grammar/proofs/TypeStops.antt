@@ -3,84 +3,19 @@ use Rattle.std.proofs.Common.{◌≡◌, Bool, true, false, not, ◌&&◌, ◌||
 use Rattle.std.specs.Prelude.{codes}
 use Rattle.std.proofs.lemmas.Bool.{false≢true}
 use Rattle.ck_base.specs.declared.tokens.Token.{Token}
-use Rattle.ck_grammar.specs.Fitting.{
-  FitsEach,
-  FitsDeclarator,
-  FitsDims,
-  FitsParams,
-  Naming,
-  NewName,
-  MemberName,
-  MaybeName,
-  NoName,
-  may_be_abstract,
-  may_name,
-  is_written,
-  is_star,
-  is_specifier_word,
-  is_tag_word,
-  is_ordinary,
-}
+use Rattle.ck_grammar.specs.Fitting.{FitsEach, FitsDeclarator, FitsDims, FitsParams, Naming, NewName, MemberName}
+use Rattle.ck_grammar.specs.Fitting.{MaybeName, NoName, may_be_abstract, may_name, is_written, is_star}
+use Rattle.ck_grammar.specs.Fitting.{is_specifier_word, is_tag_word, is_ordinary}
 use Rattle.ck_grammar.specs.ReadingExpressions.{opens_type}
 use Rattle.ck_grammar.specs.ReadingTypes.{begins_with, begins_params, is_close}
-use Rattle.ck_grammar.specs.Specified.{
-  Place,
-  InType,
-  InParameter,
-  go_together,
-  has_one_type,
-  storage_fits,
-  some_word,
-  is_storage,
-  is_inline,
-}
-use Rattle.ck_grammar.specs.Trees.{
-  Specifiers,
-  Declarator,
-  Dims,
-  Params,
-  NoSpecifiers,
-  TypedefName,
-  Tagged,
-  Struct,
-  Enum,
-  Abstract,
-  Named,
-  Nested,
-  NoDims,
-  Open,
-  Sized,
-  Function,
-  NoParams,
-  VoidParams,
-  Parameters,
-}
-use Rattle.ck_grammar.specs.Words.{
-  begins_specifiers,
-  Word,
-  Ordinary,
-  Typedef,
-  Number,
-  String,
-  Fixed,
-  sort,
-  begins_type,
-  Sort,
-  Storage,
-  Qualifier,
-  Inline,
-  TypeWord,
-  StructWord,
-  EnumWord,
-  Plain,
-  TypeName,
-  Star,
-  RoundMark,
-  SquareMark,
-  CurlyMark,
-  CloseMark,
-  Other,
-}
+use Rattle.ck_grammar.specs.Specified.{Place, InType, InParameter, go_together, has_one_type, storage_fits, some_word}
+use Rattle.ck_grammar.specs.Specified.{is_storage, is_inline}
+use Rattle.ck_grammar.specs.Trees.{Specifiers, Declarator, Dims, Params, NoSpecifiers, TypedefName, Tagged, Struct}
+use Rattle.ck_grammar.specs.Trees.{Enum, Abstract, Named, Nested, NoDims, Open, Sized, Function, NoParams, VoidParams}
+use Rattle.ck_grammar.specs.Trees.{Parameters}
+use Rattle.ck_grammar.specs.Words.{begins_specifiers, Word, Ordinary, Typedef, Number, String, Fixed, sort, begins_type}
+use Rattle.ck_grammar.specs.Words.{Sort, Storage, Qualifier, Inline, TypeWord, StructWord, EnumWord, Plain, TypeName}
+use Rattle.ck_grammar.specs.Words.{Star, RoundMark, SquareMark, CurlyMark, CloseMark, Other}
 use Rattle.ck_grammar.specs.Written.{specifiers, declarator, dims, params}
 use Rattle.ck_grammar.specs.Trees as trees
 

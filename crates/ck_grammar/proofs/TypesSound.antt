@@ -1,187 +1,39 @@
 -- What the readers of specifiers and declarators read is spelled so, where it is for the readers of what stands inside.
-use Rattle.std.proofs.Common.{
-  ◌≡◌,
-  ℕ,
-  zero,
-  suc,
-  ◌≤◌,
-  Bool,
-  true,
-  false,
-  ◌&&◌,
-  ◌||◌,
-  not,
-  cond,
-  List,
-  [],
-  ◌∷◌,
-  ◌++◌,
-  length,
-  Option,
-  Some,
-  None,
-  refl,
-  sym,
-  ap,
-  ◌∙◌,
-  arith,
-}
+use Rattle.std.proofs.Common.{◌≡◌, ℕ, zero, suc, ◌≤◌, Bool, true, false, ◌&&◌, ◌||◌, not, cond, List, [], ◌∷◌, ◌++◌}
+use Rattle.std.proofs.Common.{length, Option, Some, None, refl, sym, ap, ◌∙◌, arith}
 use Rattle.std.specs.Prelude.{codes}
 use Rattle.std.proofs.lemmas.Bool.{false≢true}
 use Rattle.ck_base.specs.declared.tokens.Token.{Token}
 use Rattle.ck_grammar.proofs.ExpressionsSound.{GoodExpr, IsExpr}
-use Rattle.ck_grammar.proofs.OnRead.{
-  OnRead,
-  OnPair,
-  IsSpelled,
-  SoundReader,
-  SoundLoop,
-  on_then,
-  by_if,
-  on_else,
-  on_mark,
-  is_fixed,
-  on_guard,
-}
+use Rattle.ck_grammar.proofs.OnRead.{OnRead, OnPair, IsSpelled, SoundReader, SoundLoop, on_then, by_if, on_else}
+use Rattle.ck_grammar.proofs.OnRead.{on_mark, is_fixed, on_guard}
 use Rattle.ck_grammar.proofs.TypeStops.{and_left, and_right}
 use Rattle.ck_grammar.proofs.WordsTold.{SortTells, sort_tells}
-use Rattle.ck_grammar.specs.Fitting.{
-  FitsEach,
-  FitsMembers,
-  FitsDeclarators,
-  FitsDeclarator,
-  FitsDims,
-  FitsParams,
-  FitsMore,
-  FitsEnumerators,
-  IsTag,
-  IsComma,
-  Naming,
-  MemberName,
-  MaybeName,
-  may_be_abstract,
-  may_name,
-  is_written,
-  is_ordinary,
-  IsPointer,
-  ArePointerParts,
-  is_star,
-  is_pointer_part,
-  is_specifier_word,
-  has_member,
-  is_void,
-  is_void_alone,
-  is_end,
-}
-use Rattle.ck_grammar.specs.Nesting.{
-  specifiers_nesting,
-  members_nesting,
-  declarators_nesting,
-  declarator_nesting,
-  abstract_nesting,
-  dims_nesting,
-  params_nesting,
-  more_params_nesting,
-  enumerators_nesting,
-}
+use Rattle.ck_grammar.specs.Fitting.{FitsEach, FitsMembers, FitsDeclarators, FitsDeclarator, FitsDims, FitsParams}
+use Rattle.ck_grammar.specs.Fitting.{FitsMore, FitsEnumerators, IsTag, IsComma, Naming, MemberName, MaybeName}
+use Rattle.ck_grammar.specs.Fitting.{may_be_abstract, may_name, is_written, is_ordinary, IsPointer, ArePointerParts}
+use Rattle.ck_grammar.specs.Fitting.{is_star, is_pointer_part, is_specifier_word, has_member, is_void, is_void_alone}
+use Rattle.ck_grammar.specs.Fitting.{is_end}
+use Rattle.ck_grammar.specs.Nesting.{specifiers_nesting, members_nesting, declarators_nesting, declarator_nesting}
+use Rattle.ck_grammar.specs.Nesting.{abstract_nesting, dims_nesting, params_nesting, more_params_nesting}
+use Rattle.ck_grammar.specs.Nesting.{enumerators_nesting}
 use Rattle.ck_grammar.specs.Readers.{Reader, onto}
 use Rattle.ck_grammar.specs.ReadingExpressions.{begins_operand}
-use Rattle.ck_grammar.specs.ReadingTypes.{
-  begins_with,
-  is_curly,
-  body,
-  tagged,
-  specifier_by,
-  specifier_loop,
-  declarator_loop,
-  member_loop,
-  is_name,
-  enumerator_end,
-  enumerator_value,
-  more_loop,
-  void_of,
-  parameters,
-  dim_by,
-  dim_loop,
-  pointer_parts,
-  pointer,
-  with_dims,
-  abstract,
-  nested,
-  begins_params,
-  middle_by,
-  middle,
-}
+use Rattle.ck_grammar.specs.ReadingTypes.{begins_with, is_curly, body, tagged, specifier_by, specifier_loop}
+use Rattle.ck_grammar.specs.ReadingTypes.{declarator_loop, member_loop, is_name, enumerator_end, enumerator_value}
+use Rattle.ck_grammar.specs.ReadingTypes.{more_loop, void_of, parameters, dim_by, dim_loop, pointer_parts, pointer}
+use Rattle.ck_grammar.specs.ReadingTypes.{with_dims, abstract, nested, begins_params, middle_by, middle}
 use Rattle.ck_grammar.specs.Specified.{is_type_word, Place, InType, InParameter, go_together}
-use Rattle.ck_grammar.specs.Trees.{
-  Expr,
-  Specifiers,
-  Members,
-  Declarators,
-  Declarator,
-  Dims,
-  Params,
-  MoreParams,
-  Enumerators,
-  NoSpecifiers,
-  TypedefName,
-  Tagged,
-  Struct,
-  Enum,
-  NoMembers,
-  Member,
-  NoDeclarators,
-  Also,
-  Abstract,
-  Named,
-  Nested,
-  NoDims,
-  Open,
-  Sized,
-  Function,
-  NoParams,
-  VoidParams,
-  Parameters,
-  NoMore,
-  Ellipsis,
-  More,
-  LastOne,
-  LastValued,
-  One,
-  Valued,
-}
-use Rattle.ck_grammar.specs.Words.{
-  is_text,
-  Word,
-  Ordinary,
-  Typedef,
-  Fixed,
-  is_identifier,
-  sort,
-  Sort,
-  Storage,
-  Qualifier,
-  Inline,
-  TypeWord,
-  StructWord,
-  EnumWord,
-  TypeName,
-  RoundMark,
-  SquareMark,
-  begins_specifiers,
-}
-use Rattle.ck_grammar.specs.Written.{
-  written,
-  specifiers,
-  members,
-  declarators,
-  declarator,
-  dims,
-  params,
-  more_params,
-  enumerators,
-  optional,
-}
+use Rattle.ck_grammar.specs.Trees.{Expr, Specifiers, Members, Declarators, Declarator, Dims, Params, MoreParams}
+use Rattle.ck_grammar.specs.Trees.{Enumerators, NoSpecifiers, TypedefName, Tagged, Struct, Enum, NoMembers, Member}
+use Rattle.ck_grammar.specs.Trees.{NoDeclarators, Also, Abstract, Named, Nested, NoDims, Open, Sized, Function}
+use Rattle.ck_grammar.specs.Trees.{NoParams, VoidParams, Parameters, NoMore, Ellipsis, More, LastOne, LastValued, One}
+use Rattle.ck_grammar.specs.Trees.{Valued}
+use Rattle.ck_grammar.specs.Words.{is_text, Word, Ordinary, Typedef, Fixed, is_identifier, sort, Sort, Storage}
+use Rattle.ck_grammar.specs.Words.{Qualifier, Inline, TypeWord, StructWord, EnumWord, TypeName, RoundMark, SquareMark}
+use Rattle.ck_grammar.specs.Words.{begins_specifiers}
+use Rattle.ck_grammar.specs.Written.{written, specifiers, members, declarators, declarator, dims, params, more_params}
+use Rattle.ck_grammar.specs.Written.{enumerators, optional}
 use Rattle.ck_grammar.specs.ReadingTypes as types
 use Rattle.ck_grammar.specs.Trees as trees
 

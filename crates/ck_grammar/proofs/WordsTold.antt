@@ -1,96 +1,23 @@
 -- What it tells of a word how it begins an operand or a statement, follows an expression or stands in a declaration.
-use Rattle.std.proofs.Common.{
-  ◌≡◌,
-  ℕ,
-  ◌≤◌,
-  Bool,
-  true,
-  false,
-  ◌||◌,
-  cond,
-  List,
-  [],
-  ◌∷◌,
-  nat_eq,
-  refl,
-  ap,
-  arith,
-  ◌⊎◌,
-  inl,
-  inr,
-}
+use Rattle.std.proofs.Common.{◌≡◌, ℕ, ◌≤◌, Bool, true, false, ◌||◌, cond, List, [], ◌∷◌, nat_eq, refl, ap, arith, ◌⊎◌}
+use Rattle.std.proofs.Common.{inl, inr}
 use Rattle.std.specs.Prelude.{codes}
 use Rattle.std.specs.Str.{bytes_eq}
 use Rattle.std.proofs.lemmas.Bool.{false≢true}
 use Rattle.std.proofs.lemmas.Bool.Decides.{nat_tests}
 use Rattle.std.proofs.lemmas.Slice.Eq.{bytes_eq-Decides}
 use Rattle.ck_grammar.specs.Fitting.{operator_level}
-use Rattle.ck_grammar.specs.Phrases.{
-  Phrase,
-  NamePhrase,
-  BlockPhrase,
-  ClosePhrase,
-  EmptyPhrase,
-  IfPhrase,
-  ElsePhrase,
-  SwitchPhrase,
-  WhilePhrase,
-  DoPhrase,
-  ForPhrase,
-  CasePhrase,
-  DefaultPhrase,
-  GotoPhrase,
-  JumpPhrase,
-  ReturnPhrase,
-  OtherPhrase,
-  phrase,
-}
+use Rattle.ck_grammar.specs.Phrases.{Phrase, NamePhrase, BlockPhrase, ClosePhrase, EmptyPhrase, IfPhrase, ElsePhrase}
+use Rattle.ck_grammar.specs.Phrases.{SwitchPhrase, WhilePhrase, DoPhrase, ForPhrase, CasePhrase, DefaultPhrase}
+use Rattle.ck_grammar.specs.Phrases.{GotoPhrase, JumpPhrase, ReturnPhrase, OtherPhrase, phrase}
 use Rattle.ck_grammar.specs.ReadingExpressions.{is_string}
 use Rattle.ck_grammar.specs.StatementsFitting.{IsJump}
-use Rattle.ck_grammar.specs.Words.{
-  Word,
-  is_identifier,
-  Ordinary,
-  Typedef,
-  Number,
-  String,
-  Fixed,
-  is_one_of,
-  Sort,
-  Storage,
-  Qualifier,
-  Inline,
-  TypeWord,
-  StructWord,
-  EnumWord,
-  TypeName,
-  Star,
-  RoundMark,
-  SquareMark,
-  CurlyMark,
-  CloseMark,
-  Other,
-  sort,
-  Lead,
-  NameLead,
-  ConstantLead,
-  StringLead,
-  ParenLead,
-  StepLead,
-  OperatorLead,
-  SizeofLead,
-  NoLead,
-  lead,
-  Follow,
-  Bracket,
-  Parenthesis,
-  Point,
-  Steps,
-  Operator,
-  follow,
-  operator_in,
-  operators,
-}
+use Rattle.ck_grammar.specs.Words.{Word, is_identifier, Ordinary, Typedef, Number, String, Fixed, is_one_of, Sort}
+use Rattle.ck_grammar.specs.Words.{Storage, Qualifier, Inline, TypeWord, StructWord, EnumWord, TypeName, Star}
+use Rattle.ck_grammar.specs.Words.{RoundMark, SquareMark, CurlyMark, CloseMark, Other, sort, Lead, NameLead}
+use Rattle.ck_grammar.specs.Words.{ConstantLead, StringLead, ParenLead, StepLead, OperatorLead, SizeofLead, NoLead}
+use Rattle.ck_grammar.specs.Words.{lead, Follow, Bracket, Parenthesis, Point, Steps, Operator, follow, operator_in}
+use Rattle.ck_grammar.specs.Words.{operators}
 
 same_text : (text other : List ℕ) → bytes_eq text other ≡ true → Fixed text ≡ Fixed other
 same_text text other h = ap Fixed ((bytes_eq-Decides text other).0 h)

@@ -8,45 +8,11 @@ use Rattle.ck_grammar.specs.Fitting.{Fits}
 use Rattle.ck_grammar.specs.Nesting.{nesting}
 use Rattle.ck_grammar.specs.Reading.{expr_at}
 use Rattle.ck_grammar.specs.Spelling.{Spells, most}
-use Rattle.ck_grammar.specs.Trees.{
-  Expr,
-  Name,
-  Constant,
-  Paren,
-  Postfix,
-  Unary,
-  SizeofType,
-  Cast,
-  Chain,
-  Conditional,
-  Assignment,
-  NoOperands,
-  Operand,
-  NoSuffixes,
-  Index,
-  Call,
-  MemberAccess,
-  PostIncrement,
-  NoSpecifiers,
-  Word,
-  TypedefName,
-  Struct,
-  Enum,
-  NoMembers,
-  Member,
-  NoDeclarators,
-  Abstract,
-  Named,
-  Nested,
-  NoDims,
-  Function,
-  VoidParams,
-  Parameters,
-  NoMore,
-  Ellipsis,
-  LastValued,
-  One,
-}
+use Rattle.ck_grammar.specs.Trees.{Expr, Name, Constant, Paren, Postfix, Unary, SizeofType, Cast, Chain, Conditional}
+use Rattle.ck_grammar.specs.Trees.{Assignment, NoOperands, Operand, NoSuffixes, Index, Call, MemberAccess}
+use Rattle.ck_grammar.specs.Trees.{PostIncrement, NoSpecifiers, Word, TypedefName, Struct, Enum, NoMembers, Member}
+use Rattle.ck_grammar.specs.Trees.{NoDeclarators, Abstract, Named, Nested, NoDims, Function, VoidParams, Parameters}
+use Rattle.ck_grammar.specs.Trees.{NoMore, Ellipsis, LastValued, One}
 use Rattle.ck_grammar.specs.Words.{Word as Words, Fixed, Number, word_of}
 use Rattle.ck_grammar.specs.Written.{written}
 use Rattle.ck_grammar.proofs.AllRead.{one_tree}

@@ -1,23 +1,6 @@
 -- How deep a file may nest (C99 6.9), computed on the definitions.
-use Rattle.std.proofs.Common.{
-  ◌≡◌,
-  ℕ,
-  ◌+◌,
-  ◌-◌,
-  length,
-  zero,
-  suc,
-  ◌≤◌,
-  Bool,
-  true,
-  ◌&&◌,
-  ap,
-  List,
-  [],
-  ◌∷◌,
-  refl,
-  arith,
-}
+use Rattle.std.proofs.Common.{◌≡◌, ℕ, ◌+◌, ◌-◌, length, zero, suc, ◌≤◌, Bool, true, ◌&&◌, ap, List, [], ◌∷◌, refl}
+use Rattle.std.proofs.Common.{arith}
 use Rattle.std.specs.Prelude.{codes}
 use Rattle.std.proofs.lemmas.Bool.{false≢true}
 use Rattle.std.proofs.lemmas.Slice.Eq.{bytes_eq-Decides}

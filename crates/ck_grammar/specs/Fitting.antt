@@ -1,116 +1,21 @@
 -- Which trees are well formed: each token is the word that its place asks for, and each part binds as tightly as its
 -- place asks for (C99 6.5, 6.7). `w` gives the word of a token, so it knows the typedef names.
-use Rattle.std.specs.Prelude.{
-  ◌≡◌,
-  ◌≤◌,
-  ◌<◌,
-  Bool,
-  true,
-  false,
-  not,
-  ◌&&◌,
-  ◌||◌,
-  ◌==◌,
-  List,
-  [],
-  ◌∷◌,
-  Option,
-  Some,
-  None,
-  codes,
-  nat_le,
-}
+use Rattle.std.specs.Prelude.{◌≡◌, ◌≤◌, ◌<◌, Bool, true, false, not, ◌&&◌, ◌||◌, ◌==◌, List, [], ◌∷◌, Option, Some}
+use Rattle.std.specs.Prelude.{None, codes, nat_le}
 use Rattle.ck_base.specs.declared.tokens.Token.{Token}
 use Rattle.ck_grammar.specs.Levels as level
 use Rattle.ck_grammar.specs.Specified.{Place, InType, InParameter, go_together, is_type_word}
 use Rattle.ck_grammar.specs.Trees as trees
-use Rattle.ck_grammar.specs.Trees.{
-  Expr,
-  Operands,
-  Suffixes,
-  Specifiers,
-  Members,
-  Declarators,
-  Declarator,
-  Dims,
-  Params,
-  MoreParams,
-  Enumerators,
-  Name,
-  Constant,
-  Strings,
-  Paren,
-  Postfix,
-  Unary,
-  SizeofType,
-  Cast,
-  Chain,
-  Conditional,
-  Assignment,
-  NoOperands,
-  Operand,
-  NoSuffixes,
-  Index,
-  CallEmpty,
-  Call,
-  MemberAccess,
-  PostIncrement,
-  NoSpecifiers,
-  TypedefName,
-  Tagged,
-  Struct,
-  Enum,
-  NoMembers,
-  Member,
-  NoDeclarators,
-  Also,
-  Abstract,
-  Named,
-  Nested,
-  NoDims,
-  Open,
-  Sized,
-  Function,
-  NoParams,
-  VoidParams,
-  Parameters,
-  NoMore,
-  Ellipsis,
-  More,
-  LastOne,
-  LastValued,
-  One,
-  Valued,
-}
-use Rattle.ck_grammar.specs.Words.{
-  Word,
-  Ordinary,
-  Typedef,
-  Number,
-  String,
-  Is,
-  is_text,
-  is_identifier,
-  Sort,
-  Storage,
-  Qualifier,
-  Inline,
-  TypeWord,
-  StructWord,
-  EnumWord,
-  Star,
-  sort,
-  Lead,
-  StepLead,
-  OperatorLead,
-  SizeofLead,
-  lead,
-  Follow,
-  Point,
-  Steps,
-  Operator,
-  follow,
-}
+use Rattle.ck_grammar.specs.Trees.{Expr, Operands, Suffixes, Specifiers, Members, Declarators, Declarator, Dims, Params}
+use Rattle.ck_grammar.specs.Trees.{MoreParams, Enumerators, Name, Constant, Strings, Paren, Postfix, Unary, SizeofType}
+use Rattle.ck_grammar.specs.Trees.{Cast, Chain, Conditional, Assignment, NoOperands, Operand, NoSuffixes, Index}
+use Rattle.ck_grammar.specs.Trees.{CallEmpty, Call, MemberAccess, PostIncrement, NoSpecifiers, TypedefName, Tagged}
+use Rattle.ck_grammar.specs.Trees.{Struct, Enum, NoMembers, Member, NoDeclarators, Also, Abstract, Named, Nested}
+use Rattle.ck_grammar.specs.Trees.{NoDims, Open, Sized, Function, NoParams, VoidParams, Parameters, NoMore, Ellipsis}
+use Rattle.ck_grammar.specs.Trees.{More, LastOne, LastValued, One, Valued}
+use Rattle.ck_grammar.specs.Words.{Word, Ordinary, Typedef, Number, String, Is, is_text, is_identifier, Sort, Storage}
+use Rattle.ck_grammar.specs.Words.{Qualifier, Inline, TypeWord, StructWord, EnumWord, Star, sort, Lead, StepLead}
+use Rattle.ck_grammar.specs.Words.{OperatorLead, SizeofLead, lead, Follow, Point, Steps, Operator, follow}
 
 -- the level of an operator, and 0 for what is none
 abbrev pub operator_level : Follow → level.Level

@@ -1,17 +1,8 @@
 -- What a token begins at the start of a statement (C99 6.8). What begins an operand or specifiers begins no other
 -- statement than an expression or a declaration.
 use Rattle.std.specs.Prelude.{ℕ, ◌||◌, List, if◌then◌else◌}
-use Rattle.ck_grammar.specs.Words.{
-  Word,
-  Ordinary,
-  Typedef,
-  Fixed,
-  sort_by,
-  begins_specifiers,
-  lead_by,
-  begins_lead,
-  ◌∈words◌,
-}
+use Rattle.ck_grammar.specs.Words.{Word, Ordinary, Typedef, Fixed, sort_by, begins_specifiers, lead_by, begins_lead}
+use Rattle.ck_grammar.specs.Words.{◌∈words◌}
 
 pub data Phrase : Type 0 where
   NamePhrase : Phrase

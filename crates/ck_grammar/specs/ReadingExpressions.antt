@@ -1,77 +1,18 @@
 -- How expressions are read from a list of tokens (C99 6.5): `expr` reads the expressions inside, by their level, and
 -- `ty` the type names inside; `n` is how deep these may nest.
-use Rattle.std.specs.Prelude.{
-  ℕ,
-  zero,
-  suc,
-  Bool,
-  true,
-  false,
-  ◌&&◌,
-  ◌==◌,
-  List,
-  [],
-  ◌∷◌,
-  length,
-  Some,
-  None,
-  nat_le,
-  if◌then◌else◌,
-}
+use Rattle.std.specs.Prelude.{ℕ, zero, suc, Bool, true, false, ◌&&◌, ◌==◌, List, [], ◌∷◌, length, Some, None, nat_le}
+use Rattle.std.specs.Prelude.{if◌then◌else◌}
 use Rattle.ck_base.specs.declared.tokens.Token.{Token}
 use Rattle.ck_grammar.specs.Fitting.{operator_level, is_unary, takes, is_tight, has_suffix}
 use Rattle.ck_grammar.specs.Levels as level
 use Rattle.ck_grammar.specs.Nesting.{nesting}
 use Rattle.ck_grammar.specs.Readers.{Reader, ◌>>=◌, ◌>>◌, or_else, onto, mark, identifier}
-use Rattle.ck_grammar.specs.Trees.{
-  Expr,
-  Operands,
-  Suffixes,
-  Specifiers,
-  Declarator,
-  Name,
-  Constant,
-  Strings,
-  Paren,
-  Postfix,
-  Unary,
-  SizeofType,
-  Cast,
-  Chain,
-  Conditional,
-  Assignment,
-  NoOperands,
-  Operand,
-  NoSuffixes,
-  Index,
-  CallEmpty,
-  Call,
-  MemberAccess,
-  PostIncrement,
-}
-use Rattle.ck_grammar.specs.Words.{
-  Word,
-  String,
-  sort,
-  begins_type,
-  Lead,
-  NameLead,
-  ConstantLead,
-  StringLead,
-  ParenLead,
-  StepLead,
-  OperatorLead,
-  SizeofLead,
-  NoLead,
-  lead,
-  begins_lead,
-  Follow,
-  Bracket,
-  Parenthesis,
-  Point,
-  Steps,
-  follow,
-}
+use Rattle.ck_grammar.specs.Trees.{Expr, Operands, Suffixes, Specifiers, Declarator, Name, Constant, Strings, Paren}
+use Rattle.ck_grammar.specs.Trees.{Postfix, Unary, SizeofType, Cast, Chain, Conditional, Assignment, NoOperands}
+use Rattle.ck_grammar.specs.Trees.{Operand, NoSuffixes, Index, CallEmpty, Call, MemberAccess, PostIncrement}
+use Rattle.ck_grammar.specs.Words.{Word, String, sort, begins_type, Lead, NameLead, ConstantLead, StringLead, ParenLead}
+use Rattle.ck_grammar.specs.Words.{StepLead, OperatorLead, SizeofLead, NoLead, lead, begins_lead, Follow, Bracket}
+use Rattle.ck_grammar.specs.Words.{Parenthesis, Point, Steps, follow}
 
 abbrev pub is_string : Word → Bool
 is_string String = true

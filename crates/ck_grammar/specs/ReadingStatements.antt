@@ -1,102 +1,25 @@
 -- How declarations, statements and files are read from a list of tokens (C99 6.7 to 6.9), by how deep they may nest.
-use Rattle.std.specs.Prelude.{
-  ℕ,
-  ◌-◌,
-  zero,
-  suc,
-  Bool,
-  true,
-  false,
-  not,
-  ◌&&◌,
-  ◌||◌,
-  List,
-  [],
-  ◌∷◌,
-  length,
-  Option,
-  Some,
-  None,
-  codes,
-  if◌then◌else◌,
-}
+use Rattle.std.specs.Prelude.{ℕ, ◌-◌, zero, suc, Bool, true, false, not, ◌&&◌, ◌||◌, List, [], ◌∷◌, length, Option}
+use Rattle.std.specs.Prelude.{Some, None, codes, if◌then◌else◌}
 use Rattle.ck_base.specs.declared.tokens.Token.{Token}
 use Rattle.ck_grammar.specs.Fitting.{NewName}
 use Rattle.ck_grammar.specs.Levels as level
-use Rattle.ck_grammar.specs.Phrases.{
-  Phrase,
-  NamePhrase,
-  BlockPhrase,
-  EmptyPhrase,
-  IfPhrase,
-  SwitchPhrase,
-  WhilePhrase,
-  DoPhrase,
-  ForPhrase,
-  CasePhrase,
-  DefaultPhrase,
-  GotoPhrase,
-  JumpPhrase,
-  ReturnPhrase,
-  OtherPhrase,
-  phrase,
-}
+use Rattle.ck_grammar.specs.Phrases.{Phrase, NamePhrase, BlockPhrase, EmptyPhrase, IfPhrase, SwitchPhrase, WhilePhrase}
+use Rattle.ck_grammar.specs.Phrases.{DoPhrase, ForPhrase, CasePhrase, DefaultPhrase, GotoPhrase, JumpPhrase}
+use Rattle.ck_grammar.specs.Phrases.{ReturnPhrase, OtherPhrase, phrase}
 use Rattle.ck_grammar.specs.Readers.{Reader, ◌>>=◌, ◌>>◌, or_else, is_at, mark, identifier}
 use Rattle.ck_grammar.specs.Reading.{expr_at, specifiers_at, declarator_at}
 use Rattle.ck_grammar.specs.ReadingExpressions.{begins_operand}
 use Rattle.ck_grammar.specs.ReadingTypes.{begins_with}
 use Rattle.ck_grammar.specs.Specified.{Place, InBlock, InFile}
 use Rattle.ck_grammar.specs.Spelling.{most}
-use Rattle.ck_grammar.specs.Statements.{
-  Designators,
-  Init,
-  Inits,
-  Declared,
-  MoreDeclared,
-  Declaration,
-  ForStart,
-  Statement,
-  BlockItems,
-  External,
-  Equals,
-  DotName,
-  AtIndex,
-  Value,
-  Braced,
-  LastInit,
-  NextInit,
-  Plainly,
-  Initialised,
-  NoMoreDeclared,
-  AndPlainly,
-  AndInitialised,
-  Bare,
-  Declares,
-  StartEmpty,
-  StartExpr,
-  StartDeclaration,
-  Block,
-  Empty,
-  ExpressionStatement,
-  If,
-  IfElse,
-  Switch,
-  While,
-  Do,
-  For,
-  Case,
-  Default,
-  Label,
-  Goto,
-  Jump,
-  Return,
-  ReturnValue,
-  NoBlockItems,
-  DeclarationItem,
-  StatementItem,
-  FileDeclaration,
-  FunctionDefinition,
-}
+use Rattle.ck_grammar.specs.Statements.{Designators, Init, Inits, Declared, MoreDeclared, Declaration, ForStart}
+use Rattle.ck_grammar.specs.Statements.{Statement, BlockItems, External, Equals, DotName, AtIndex, Value, Braced}
+use Rattle.ck_grammar.specs.Statements.{LastInit, NextInit, Plainly, Initialised, NoMoreDeclared, AndPlainly}
+use Rattle.ck_grammar.specs.Statements.{AndInitialised, Bare, Declares, StartEmpty, StartExpr, StartDeclaration, Block}
+use Rattle.ck_grammar.specs.Statements.{Empty, ExpressionStatement, If, IfElse, Switch, While, Do, For, Case, Default}
+use Rattle.ck_grammar.specs.Statements.{Label, Goto, Jump, Return, ReturnValue, NoBlockItems, DeclarationItem}
+use Rattle.ck_grammar.specs.Statements.{StatementItem, FileDeclaration, FunctionDefinition}
 use Rattle.ck_grammar.specs.StatementsFitting.{names_after, is_typedef, shape, Shape, FunctionShape, external_after}
 use Rattle.ck_grammar.specs.Trees.{Expr, Specifiers, Declarator}
 use Rattle.ck_grammar.specs.Words.{Word, begins_specifiers, is_identifier, is_text, word_of}

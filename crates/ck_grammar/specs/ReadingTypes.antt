@@ -1,95 +1,21 @@
 -- How specifiers and declarators are read from a list of tokens (C99 6.7), for given readers of what is inside.
-use Rattle.std.specs.Prelude.{
-  ℕ,
-  zero,
-  suc,
-  Bool,
-  true,
-  false,
-  ◌&&◌,
-  ◌||◌,
-  List,
-  [],
-  ◌∷◌,
-  length,
-  Option,
-  Some,
-  None,
-  codes,
-  if◌then◌else◌,
-}
+use Rattle.std.specs.Prelude.{ℕ, zero, suc, Bool, true, false, ◌&&◌, ◌||◌, List, [], ◌∷◌, length, Option, Some, None}
+use Rattle.std.specs.Prelude.{codes, if◌then◌else◌}
 use Rattle.ck_base.specs.declared.tokens.Token.{Token}
-use Rattle.ck_grammar.specs.Fitting.{
-  Naming,
-  may_be_abstract,
-  may_name,
-  is_written,
-  is_star,
-  is_pointer_part,
-  is_ordinary,
-  has_member,
-  is_void_alone,
-}
+use Rattle.ck_grammar.specs.Fitting.{Naming, may_be_abstract, may_name, is_written, is_star, is_pointer_part}
+use Rattle.ck_grammar.specs.Fitting.{is_ordinary, has_member, is_void_alone}
 use Rattle.ck_grammar.specs.Readers.{Reader, ◌>>=◌, ◌>>◌, onto, or_else, mark}
 use Rattle.ck_grammar.specs.ReadingExpressions.{begins_operand}
 use Rattle.ck_grammar.specs.Specified.{Place, go_together}
-use Rattle.ck_grammar.specs.Trees.{
-  Expr,
-  Specifiers,
-  Members,
-  Declarators,
-  Declarator,
-  Dims,
-  Params,
-  MoreParams,
-  Enumerators,
-  NoSpecifiers,
-  TypedefName,
-  Tagged,
-  Struct,
-  Enum,
-  NoMembers,
-  Member,
-  NoDeclarators,
-  Also,
-  Abstract,
-  Named,
-  Nested,
-  NoDims,
-  Open,
-  Sized,
-  Function,
-  NoParams,
-  VoidParams,
-  Parameters,
-  NoMore,
-  Ellipsis,
-  More,
-  LastOne,
-  LastValued,
-  One,
-  Valued,
-}
+use Rattle.ck_grammar.specs.Trees.{Expr, Specifiers, Members, Declarators, Declarator, Dims, Params, MoreParams}
+use Rattle.ck_grammar.specs.Trees.{Enumerators, NoSpecifiers, TypedefName, Tagged, Struct, Enum, NoMembers, Member}
+use Rattle.ck_grammar.specs.Trees.{NoDeclarators, Also, Abstract, Named, Nested, NoDims, Open, Sized, Function}
+use Rattle.ck_grammar.specs.Trees.{NoParams, VoidParams, Parameters, NoMore, Ellipsis, More, LastOne, LastValued, One}
+use Rattle.ck_grammar.specs.Trees.{Valued}
 use Rattle.ck_grammar.specs.Trees as trees
-use Rattle.ck_grammar.specs.Words.{
-  Word,
-  is_text,
-  is_identifier,
-  Sort,
-  Storage,
-  Qualifier,
-  Inline,
-  TypeWord,
-  StructWord,
-  EnumWord,
-  TypeName,
-  RoundMark,
-  SquareMark,
-  CurlyMark,
-  CloseMark,
-  begins_specifiers,
-  sort,
-}
+use Rattle.ck_grammar.specs.Words.{Word, is_text, is_identifier, Sort, Storage, Qualifier, Inline, TypeWord, StructWord}
+use Rattle.ck_grammar.specs.Words.{EnumWord, TypeName, RoundMark, SquareMark, CurlyMark, CloseMark, begins_specifiers}
+use Rattle.ck_grammar.specs.Words.{sort}
 
 abbrev pub is_curly : Sort → Bool
 is_curly CurlyMark = true

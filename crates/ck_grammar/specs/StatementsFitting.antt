@@ -6,83 +6,17 @@ use Rattle.ck_base.specs.declared.tokens.Token.{Token}
 use Rattle.ck_grammar.specs.Fitting.{Fits, FitsEach, FitsDeclarator, IsComma, NewName, AtMost, GoTogether}
 use Rattle.ck_grammar.specs.Levels as level
 use Rattle.ck_grammar.specs.Specified.{Place, InBlock, InFile}
-use Rattle.ck_grammar.specs.Statements.{
-  Designators,
-  Init,
-  Inits,
-  Declared,
-  MoreDeclared,
-  Declaration,
-  ForStart,
-  Statement,
-  BlockItems,
-  External,
-  Equals,
-  DotName,
-  AtIndex,
-  Value,
-  Braced,
-  LastInit,
-  NextInit,
-  Plainly,
-  Initialised,
-  NoMoreDeclared,
-  AndPlainly,
-  AndInitialised,
-  Bare,
-  Declares,
-  StartEmpty,
-  StartExpr,
-  StartDeclaration,
-  Block,
-  Empty,
-  ExpressionStatement,
-  If,
-  IfElse,
-  Switch,
-  While,
-  Do,
-  For,
-  Case,
-  Default,
-  Label,
-  Goto,
-  Jump,
-  Return,
-  ReturnValue,
-  NoBlockItems,
-  DeclarationItem,
-  StatementItem,
-  FileDeclaration,
-  FunctionDefinition,
-}
+use Rattle.ck_grammar.specs.Statements.{Designators, Init, Inits, Declared, MoreDeclared, Declaration, ForStart}
+use Rattle.ck_grammar.specs.Statements.{Statement, BlockItems, External, Equals, DotName, AtIndex, Value, Braced}
+use Rattle.ck_grammar.specs.Statements.{LastInit, NextInit, Plainly, Initialised, NoMoreDeclared, AndPlainly}
+use Rattle.ck_grammar.specs.Statements.{AndInitialised, Bare, Declares, StartEmpty, StartExpr, StartDeclaration, Block}
+use Rattle.ck_grammar.specs.Statements.{Empty, ExpressionStatement, If, IfElse, Switch, While, Do, For, Case, Default}
+use Rattle.ck_grammar.specs.Statements.{Label, Goto, Jump, Return, ReturnValue, NoBlockItems, DeclarationItem}
+use Rattle.ck_grammar.specs.Statements.{StatementItem, FileDeclaration, FunctionDefinition}
 use Rattle.ck_grammar.specs.Trees as trees
-use Rattle.ck_grammar.specs.Trees.{
-  Expr,
-  Specifiers,
-  Declarator,
-  Dims,
-  Params,
-  MoreParams,
-  Abstract,
-  Named,
-  Nested,
-  NoDims,
-  Open,
-  Sized,
-  Function,
-  NoParams,
-  VoidParams,
-  Parameters,
-  NoMore,
-  Ellipsis,
-  More,
-  NoSpecifiers,
-  TypedefName,
-  Tagged,
-  Struct,
-  Enum,
-}
+use Rattle.ck_grammar.specs.Trees.{Expr, Specifiers, Declarator, Dims, Params, MoreParams, Abstract, Named, Nested}
+use Rattle.ck_grammar.specs.Trees.{NoDims, Open, Sized, Function, NoParams, VoidParams, Parameters, NoMore, Ellipsis}
+use Rattle.ck_grammar.specs.Trees.{More, NoSpecifiers, TypedefName, Tagged, Struct, Enum}
 use Rattle.ck_grammar.specs.Words.{Word, Fixed, Is, is_text, is_identifier, word_of}
 use Prim.Native.String.{String}
 

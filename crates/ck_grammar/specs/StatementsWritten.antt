@@ -2,56 +2,13 @@
 -- to 6.9).
 use Rattle.std.specs.Prelude.{List, [], ◌∷◌, Option, Some, None}
 use Rattle.ck_base.specs.declared.tokens.Token.{Token}
-use Rattle.ck_grammar.specs.Statements.{
-  Designators,
-  Init,
-  Inits,
-  Declared,
-  MoreDeclared,
-  Declaration,
-  ForStart,
-  Statement,
-  BlockItems,
-  External,
-  Equals,
-  DotName,
-  AtIndex,
-  Value,
-  Braced,
-  LastInit,
-  NextInit,
-  Plainly,
-  Initialised,
-  NoMoreDeclared,
-  AndPlainly,
-  AndInitialised,
-  Bare,
-  Declares,
-  StartEmpty,
-  StartExpr,
-  StartDeclaration,
-  Block,
-  Empty,
-  ExpressionStatement,
-  If,
-  IfElse,
-  Switch,
-  While,
-  Do,
-  For,
-  Case,
-  Default,
-  Label,
-  Goto,
-  Jump,
-  Return,
-  ReturnValue,
-  NoBlockItems,
-  DeclarationItem,
-  StatementItem,
-  FileDeclaration,
-  FunctionDefinition,
-}
+use Rattle.ck_grammar.specs.Statements.{Designators, Init, Inits, Declared, MoreDeclared, Declaration, ForStart}
+use Rattle.ck_grammar.specs.Statements.{Statement, BlockItems, External, Equals, DotName, AtIndex, Value, Braced}
+use Rattle.ck_grammar.specs.Statements.{LastInit, NextInit, Plainly, Initialised, NoMoreDeclared, AndPlainly}
+use Rattle.ck_grammar.specs.Statements.{AndInitialised, Bare, Declares, StartEmpty, StartExpr, StartDeclaration, Block}
+use Rattle.ck_grammar.specs.Statements.{Empty, ExpressionStatement, If, IfElse, Switch, While, Do, For, Case, Default}
+use Rattle.ck_grammar.specs.Statements.{Label, Goto, Jump, Return, ReturnValue, NoBlockItems, DeclarationItem}
+use Rattle.ck_grammar.specs.Statements.{StatementItem, FileDeclaration, FunctionDefinition}
 use Rattle.ck_grammar.specs.Trees.{Expr}
 use Rattle.ck_grammar.specs.Written.{written, specifiers, declarator, optional}
 
