@@ -1,6 +1,6 @@
 -- What is written is read again: by how deep it nests.
-use Rattle.std.proofs.Common.{◌≡◌, ℕ, zero, suc, ◌≤◌, List, [], ◌∷◌, length, Option, Some, None, refl, sym, ap, ◌∙◌,
-    arith}
+use Rattle.std.proofs.Common.{◌≡◌, ℕ, zero, suc, ◌≤◌, List, [], ◌∷◌, length, Option, Some, None, refl, sym, ap, ◌∙◌}
+use Rattle.std.proofs.Common.{arith}
 use Rattle.std.specs.Prelude.{codes}
 use Rattle.ck_base.specs.declared.tokens.Token.{Token}
 use Rattle.ck_grammar.proofs.BodiesRead.{members_read, enumerators_read, params_read}
@@ -15,19 +15,18 @@ use Rattle.ck_grammar.specs.Fitting.{Fits, Naming, NoName, MaybeName, MemberName
 use Rattle.ck_grammar.specs.Nesting.{nesting}
 use Rattle.ck_grammar.specs.Readers.{Reader}
 use Rattle.ck_grammar.specs.Reading.{expr_at, specifiers_at, declarator_at, type_name}
-use Rattle.ck_grammar.specs.ReadingTypes as types
-use Rattle.ck_grammar.specs.Spelling.{Spells, OneExpression, most}
 use Rattle.ck_grammar.specs.Specified.{Place, InType, InParameter}
-use Rattle.ck_grammar.specs.Trees.{Expr, Specifiers, Declarator, Name, Constant, Strings, Paren, Postfix, Unary,
-    SizeofType, Cast, Chain, Conditional, Assignment}
+use Rattle.ck_grammar.specs.Spelling.{Spells, OneExpression, most}
+use Rattle.ck_grammar.specs.Trees.{Expr, Specifiers, Declarator, Name}
 use Rattle.ck_grammar.specs.Words.{Word, Fixed, word_of}
 use Rattle.ck_grammar.specs.Written.{written, specifiers, declarator}
+use Rattle.ck_grammar.specs.ReadingTypes as types
 
 pub type_name_read : (w : Token → Word) (n : ℕ) (s : Reader Specifiers) (r : Reader Declarator)
     → ReadsSpecifiers w n InType s → ReadsDeclarators w n NoName r → ReadsTypes w n (type_name s r)
 type_name_read w n s r reads_s reads_d x d c more h good h' nests nests' close =
     let first : s (specifiers x (declarator d (c ∷ more))) ≡ Some (x, declarator d (c ∷ more)) =
-        reads_s x (declarator d (c ∷ more)) h good nests (declarator_ends w NoName d (c ∷ more) h' (rw close refl)) in
+    reads_s x (declarator d (c ∷ more)) h good nests (declarator_ends w NoName d (c ∷ more) h' (rw close refl)) in
     let second : r (declarator d (c ∷ more)) ≡ Some (d, c ∷ more) = reads_d d (c ∷ more) h' nests' (rw close refl) in
     rw (first, second) refl
 
@@ -62,18 +61,18 @@ all_read w (suc n) =
       exprs = λ j le. level_read w (expr_at w n) (type_name (specifiers_at w n InType) (declarator_at w n NoName)) n j
           inner.exprs
           (type_name_read w n (specifiers_at w n InType) (declarator_at w n NoName) (inner.specs InType)
-              (inner.decls NoName)) (type_opens w) le;
+          (inner.decls NoName)) (type_opens w) le;
       specs = λ place. specifiers_read w (types.members w (specifiers_at w n InType) (declarator_at w n MemberName))
           (λ r. types.enumerators w (expr_at w n 11) (length r) r) (suc n) place
           (members_read w (specifiers_at w n InType) (declarator_at w n MemberName) n (inner.specs InType)
-              (inner.decls MemberName) (none_at_curly_at w n InType))
+          (inner.decls MemberName) (none_at_curly_at w n InType))
           (enumerators_read w (expr_at w n 11) n (inner.exprs 11 (omega arith)));
       decls = λ naming.
           declarator_read w (expr_at w n 11)
           (types.params w (specifiers_at w n InParameter) (declarator_at w n MaybeName))
           (declarator_at w n naming) n naming (inner.exprs 11 (omega arith))
           (params_read w (specifiers_at w n InParameter) (declarator_at w n MaybeName) n (inner.specs InParameter)
-              (inner.decls MaybeName)) (inner.decls naming);
+          (inner.decls MaybeName)) (inner.decls naming);
     }
 
 -- an expression is read from the tokens that it spells
@@ -82,7 +81,7 @@ pub spelled_is_read : (bytes : List ℕ) (typedefs : List (List ℕ)) (tokens : 
 spelled_is_read bytes typedefs tokens e h =
     ap (expr_at (word_of bytes typedefs) most 13) (sym h.tokens_are)
     ∙ (all_read (word_of bytes typedefs) most).exprs 13 (omega arith) e [] h.fits h.nests
-        (loosest (word_of bytes typedefs) e h.fits) tt
+    (loosest (word_of bytes typedefs) e h.fits) tt
 
 abbrev read_of : Option (Expr × List Token) → Expr → Expr
 read_of None e = e
@@ -93,7 +92,7 @@ pub one_tree : (w : Token → Word) (n : ℕ) (e f : Expr) → Fits w e → Fits
     → written e [] ≡ written f [] → e ≡ f
 one_tree w n e f h k nests nests' same_tokens =
     ap (λ r. read_of r e) (sym ((all_read w n).exprs 13 (omega arith) e [] h nests (loosest w e h) tt)
-        ∙ ap (expr_at w n 13) same_tokens ∙ (all_read w n).exprs 13 (omega arith) f [] k nests' (loosest w f k) tt)
+    ∙ ap (expr_at w n 13) same_tokens ∙ (all_read w n).exprs 13 (omega arith) f [] k nests' (loosest w f k) tt)
 
 pub one_expression : OneExpression
 one_expression bytes typedefs tokens e f h k =

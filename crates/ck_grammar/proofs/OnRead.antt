@@ -3,9 +3,10 @@ use Rattle.std.proofs.Common.{◌≡◌, ℕ, Bool, true, false, cond, List, [],
 use Rattle.std.proofs.lemmas.Bool.{false≢true}
 use Rattle.std.proofs.lemmas.Slice.Eq.{bytes_eq-Decides}
 use Rattle.ck_base.specs.declared.tokens.Token.{Token}
-use Rattle.ck_grammar.specs.Readers.{Read, Reader, then_read, behind, or_else}
-use Rattle.ck_grammar.specs.Specified.{is_text}
-use Rattle.ck_grammar.specs.Words.{Word, Ordinary, Typedef, Number, String, Fixed}
+use Rattle.ck_grammar.specs.Readers.{Read, Reader, ◌>>=◌, mark, or_else, ◌>>◌, identifier}
+use Rattle.ck_grammar.specs.Words.{is_text, Word, Fixed, is_identifier}
+use Rattle.std.specs.Prelude.{codes}
+use Prim.Native.String.{String}
 
 -- what is read, if anything is, and the tokens behind it are so
 abbrev pub OnRead : {A : Type 0} → (A → List Token → Type 0) → Read A → Type 0
@@ -30,8 +31,8 @@ abbrev pub SoundLoop : {A : Type 0} → (A → Type 0) → (A → List Token →
 SoundLoop Good spells go = (ts : List Token) → OnPair (IsSpelled Good spells ts) (go ts)
 
 pub on_then : {A B : Type 0} (P : A → List Token → Type 0) (Q : B → List Token → Type 0) (x : Read A)
-    (go : A → List Token → Read B)
-    → OnRead P x → ((a : A) (r : List Token) → P a r → OnRead Q (go a r)) → OnRead Q (then_read x go)
+    (go : A × List Token → Read B)
+    → OnRead P x → ((a : A) (r : List Token) → P a r → OnRead Q (go (a, r))) → OnRead Q (x >>= go)
 on_then P Q None go h next = tt
 on_then P Q (Some x) go h next = next x.0 x.1 h
 
@@ -48,10 +49,24 @@ pub is_fixed : (text : List ℕ) (word : Word) → is_text text word ≡ true �
 is_fixed text (Fixed other) h = ap Fixed ((bytes_eq-Decides other text).0 h)
 is_fixed text _ h = absurd (false≢true h)
 
-pub on_behind : {B : Type 0} (Q : B → List Token → Type 0) (w : Token → Word) (text : List ℕ) (ts : List Token)
-    (go : Token → List Token → Read B)
-    → ((t : Token) (r : List Token) → (t ∷ r) ≡ ts → w t ≡ Fixed text → OnRead Q (go t r))
-        → OnRead Q (behind w text ts go)
-on_behind Q w text [] go next = tt
-on_behind Q w text (t ∷ ts) go next = by_if (OnRead Q) (is_text text (w t)) (go t ts) None
-    (λ h. next t ts refl (is_fixed text (w t) h)) (λ _. tt)
+pub on_mark : {B : Type 0} (Q : B → List Token → Type 0) (w : Token → Word) (text : String) (ts : List Token)
+    (go : Token × List Token → Read B)
+    → ((t : Token) (r : List Token) → (t ∷ r) ≡ ts → w t ≡ Fixed (codes text) → OnRead Q (go (t, r)))
+    → OnRead Q (mark w text ts >>= go)
+on_mark Q w text [] go next = tt
+on_mark Q w text (t ∷ ts) go next =
+    by_if (λ m. OnRead Q (m >>= go)) (is_text (codes text) (w t)) (Some (t, ts)) None
+    (λ h. next t ts refl (is_fixed (codes text) (w t) h)) (λ _. tt)
+
+pub on_identifier : {B : Type 0} (Q : B → List Token → Type 0) (w : Token → Word) (ts : List Token)
+    (go : Token × List Token → Read B)
+    → ((t : Token) (r : List Token) → (t ∷ r) ≡ ts → is_identifier (w t) ≡ true → OnRead Q (go (t, r)))
+    → OnRead Q (identifier w ts >>= go)
+on_identifier Q w [] go next = tt
+on_identifier Q w (t ∷ ts) go next =
+    by_if (λ m. OnRead Q (m >>= go)) (is_identifier (w t)) (Some (t, ts)) None (λ h. next t ts refl h) (λ _. tt)
+
+-- what is read only where a test holds
+pub on_guard : {B : Type 0} (Q : B → List Token → Type 0) (test : Bool) (rest : Read B)
+    → (test ≡ true → OnRead Q rest) → OnRead Q (test >> rest)
+on_guard Q test rest next = by_if (OnRead Q) test rest None next (λ _. tt)

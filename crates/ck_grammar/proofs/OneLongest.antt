@@ -33,8 +33,9 @@ same_front (t ∷ ts) (u ∷ us) rest more same lengths =
 pub one_longest : OneLongest
 one_longest bytes typedefs tokens e f rest more h k =
     let same : (written e [] ++ rest) ≡ (written f [] ++ more) = sym (written_appended e [] rest) ∙ h.begins.tokens_are
-        ∙ sym k.begins.tokens_are ∙ written_appended f [] more in
+    ∙ sym k.begins.tokens_are ∙ written_appended f [] more in
     let lengths : length rest ≡ length more = omega (arith, h.longest f more k.begins, k.longest e rest h.begins) in
-    let both = same_front (written e []) (written f []) rest more same lengths in
-    (one_tree (word_of bytes typedefs) most e f h.begins.fits k.begins.fits h.begins.nests k.begins.nests both.0,
-        both.1)
+    let both = same_front (written e []) (written f []) rest more same lengths in (
+      one_tree (word_of bytes typedefs) most e f h.begins.fits k.begins.fits h.begins.nests k.begins.nests both.0,
+      both.1,
+    )

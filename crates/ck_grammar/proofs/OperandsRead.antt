@@ -24,15 +24,15 @@ operands_stop w j (Operand op e rest) more h stop = rw h.0 (omega arith)
 
 pub operands_read : (w : Token → Word) (q : Reader Expr) (n j : ℕ) (ops : Operands) (more : List Token) (f : ℕ)
     → ReadsAt w n j q → FitsOperands w (suc j) ops → operands_nesting ops ≤ n → StopsAt w (suc j) more
-        → length (operands ops more) ≤ f
+    → length (operands ops more) ≤ f
     → operand_loop w q (suc j) f (operands ops more) ≡ (ops, more)
 operands_read w q n j NoOperands more f reads h nests stop fuel = no_more_operands w q j f more stop
 operands_read w q n j (Operand op e rest) more zero reads h nests stop fuel = absurd (omega (arith, fuel))
 operands_read w q n j (Operand op e rest) more (suc f) reads h nests stop fuel =
     let read : q (written e (operands rest more)) ≡ Some (e, operands rest more) =
-        reads e (operands rest more) h.1 (omega (arith, nests)) (omega (arith, h.2))
-        (operands_stop w j rest more h.3 stop) in
+    reads e (operands rest more) h.1 (omega (arith, nests)) (omega (arith, h.2))
+    (operands_stop w j rest more h.3 stop) in
     let again : operand_loop w q (suc j) f (operands rest more) ≡ (rest, more) =
-        operands_read w q n j rest more f reads h.3 (omega (arith, nests)) stop
-        (omega (arith, fuel, longer e (operands rest more))) in
+    operands_read w q n j rest more f reads h.3 (omega (arith, nests)) stop
+    (omega (arith, fuel, longer e (operands rest more))) in
     rw (h.0, same (suc j), read, again) refl

@@ -4,17 +4,18 @@ use Rattle.std.specs.Prelude.{codes}
 use Rattle.ck_base.specs.declared.tokens.Token.{Token}
 use Rattle.ck_base.specs.declared.tokens.TokenKind.{TokenKind}
 use Rattle.ck_base.specs.declared.tokens.TokenKind.TheVariants as kinds
-use Rattle.ck_grammar.specs.Reading.{expr_at}
-use Rattle.ck_grammar.specs.Spelling.{Spells, most}
 use Rattle.ck_grammar.specs.Fitting.{Fits}
 use Rattle.ck_grammar.specs.Nesting.{nesting}
+use Rattle.ck_grammar.specs.Reading.{expr_at}
+use Rattle.ck_grammar.specs.Spelling.{Spells, most}
+use Rattle.ck_grammar.specs.Trees.{Expr, Name, Constant, Paren, Postfix, Unary, SizeofType, Cast, Chain, Conditional}
+use Rattle.ck_grammar.specs.Trees.{Assignment, NoOperands, Operand, NoSuffixes, Index, Call, MemberAccess}
+use Rattle.ck_grammar.specs.Trees.{PostIncrement, NoSpecifiers, Word, TypedefName, Struct, Enum, NoMembers, Member}
+use Rattle.ck_grammar.specs.Trees.{NoDeclarators, Abstract, Named, Nested, NoDims, Function, VoidParams, Parameters}
+use Rattle.ck_grammar.specs.Trees.{NoMore, Ellipsis, LastValued, One}
+use Rattle.ck_grammar.specs.Words.{Word as Words, Fixed, Number, word_of}
 use Rattle.ck_grammar.specs.Written.{written}
 use Rattle.ck_grammar.proofs.AllRead.{one_tree}
-use Rattle.ck_grammar.specs.Trees.{Expr, Name, Constant, Paren, Postfix, Unary, SizeofType, Cast, Chain, Conditional,
-    Assignment, NoOperands, Operand, NoSuffixes, Index, Call, MemberAccess, PostIncrement, NoSpecifiers, Word,
-    TypedefName, Struct, Enum, NoMembers, Member, NoDeclarators, Abstract, Named, Nested, NoDims, Function, VoidParams,
-    Parameters, NoMore, Ellipsis, LastValued, One}
-use Rattle.ck_grammar.specs.Words.{Word as Words, Fixed, Number, word_of}
 
 -- a token of a kind, from a byte up to a byte
 abbrev pub at : TokenKind → ℕ → ℕ → Token
@@ -181,8 +182,12 @@ parens_spell : (o z c : Token) (bytes : List ℕ) (typedefs : List (List ℕ)) (
     → word_of bytes typedefs c ≡ Fixed (codes ")")
     → k < 200 → Spells (parens o z c k) bytes (written (parens o z c k) []) typedefs
 parens_spell o z c bytes typedefs k open_ number close few =
-    record { tokens_are = refl; fits = parens_fit (word_of bytes typedefs) o z c k open_ number close; nests =
-    rw (parens_nest o z c k) few }
+    record {
+      tokens_are = refl;
+      fits = parens_fit (word_of bytes typedefs) o z c k open_ number close;
+      nests =
+          rw (parens_nest o z c k) few;
+    }
 
 too_deep : (o z c : Token) (bytes : List ℕ) (typedefs : List (List ℕ)) (k : ℕ)
     → word_of bytes typedefs o ≡ Fixed (codes "(") → word_of bytes typedefs z ≡ Number
@@ -191,6 +196,6 @@ too_deep : (o z c : Token) (bytes : List ℕ) (typedefs : List (List ℕ)) (k : 
 too_deep o z c bytes typedefs k open_ number close many e h =
     let w = word_of bytes typedefs in
     let same_tree : e ≡ parens o z c k = one_tree w (suc k) e (parens o z c k) h.fits
-        (parens_fit w o z c k open_ number close) (omega (arith, h.nests, many))
-        (omega (arith, parens_nest o z c k)) h.tokens_are in
+    (parens_fit w o z c k open_ number close) (omega (arith, h.nests, many))
+    (omega (arith, parens_nest o z c k)) h.tokens_are in
     omega (arith, many, h.nests, ap nesting same_tree, parens_nest o z c k)

@@ -4,13 +4,14 @@ use Rattle.std.specs.Prelude.{codes}
 use Rattle.std.proofs.lemmas.Bool.{false≢true}
 use Rattle.ck_base.specs.declared.tokens.TokenKind.TheVariants as kinds
 use Rattle.ck_grammar.proofs.Worked.{at}
-use Rattle.ck_grammar.specs.Spelling.{SpellsDeclaration, SpellsStatement, SpellsFile}
 use Rattle.ck_grammar.specs.Specified.{InFile}
-use Rattle.ck_grammar.specs.Statements.{Equals, DotName, AtIndex, Value, Braced, LastInit, Plainly, Initialised,
-    NoMoreDeclared, Bare, Declares, Block, ExpressionStatement, If, IfElse, Switch, Default, NoBlockItems,
-    StatementItem, FileDeclaration}
-use Rattle.ck_grammar.specs.Trees.{Name, Constant, NoSpecifiers, Word, TypedefName, Struct, NoMembers, Member,
-    NoDeclarators, Also, Abstract, Named, Nested, NoDims, Sized, Function, VoidParams, Parameters, NoMore, More}
+use Rattle.ck_grammar.specs.Spelling.{SpellsDeclaration, SpellsStatement, SpellsFile}
+use Rattle.ck_grammar.specs.Statements.{Equals, DotName, AtIndex, Value, Braced, LastInit, Plainly, Initialised}
+use Rattle.ck_grammar.specs.Statements.{NoMoreDeclared, Bare, Declares, Block, ExpressionStatement, If, IfElse, Switch}
+use Rattle.ck_grammar.specs.Statements.{Default, NoBlockItems, StatementItem, FileDeclaration}
+use Rattle.ck_grammar.specs.Trees.{Name, Constant, NoSpecifiers, Word, TypedefName, Struct, NoMembers, Member}
+use Rattle.ck_grammar.specs.Trees.{NoDeclarators, Also, Abstract, Named, Nested, NoDims, Sized, Function, VoidParams}
+use Rattle.ck_grammar.specs.Trees.{Parameters, NoMore, More}
 
 -- `if (a) if (b) x; else y;`: the `else` belongs to the nearer `if` (6.8.4.1)
 inner_else : SpellsStatement
