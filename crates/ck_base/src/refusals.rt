@@ -38,7 +38,7 @@ pub enum Unsupported {
     U28,
 }
 
-/// Where a refusal stands.
+/// Where a refusal is.
 #[derive(Clone, Copy, Debug, PartialEq, Eq)]
 pub enum Spot {
     /// At no place.
