@@ -1,7 +1,8 @@
 -- How worked texts are stated: a text is written with one blank between two tokens, and what the reader reads of it is
 -- shown with each expression of operators in braces and each statement between `begin` and `end`. So
 -- `a + { b * c }` in a shown expression tells which operands `+` and `*` have.
-use Rattle.std.specs.Prelude.{◌≡◌, ℕ, ◌+◌, suc, Bool, true, false, ◌||◌, List, [], ◌∷◌, length, Option, Some, None, codes}
+use Rattle.std.specs.Prelude.{◌≡◌, ℕ, ◌+◌, suc, Bool, true, false, ◌||◌, List, [], ◌∷◌, length, Option, Some, None,
+    codes}
 use Rattle.std.specs.Prelude.{if◌then◌else◌}
 use Rattle.ck_base.specs.Characters.{◌∈◌, ◌∈range◌}
 use Rattle.ck_base.specs.TokenText.{text_of}
@@ -14,7 +15,8 @@ use Rattle.ck_grammar.specs.Reading.{expr_at}
 use Rattle.ck_grammar.specs.ReadingStatements.{statement_at, file_at}
 use Rattle.ck_grammar.specs.Spelling.{most}
 use Rattle.ck_grammar.specs.Statements.{Statement, BlockItems, ForStart, Declaration, External, StartEmpty, StartExpr}
-use Rattle.ck_grammar.specs.Statements.{StartDeclaration, Block, Empty, ExpressionStatement, If, IfElse, Switch, While, Do}
+use Rattle.ck_grammar.specs.Statements.{StartDeclaration, Block, Empty, ExpressionStatement, If, IfElse, Switch, While,
+    Do}
 use Rattle.ck_grammar.specs.Statements.{For, Case, Default, Label, Goto, Jump, Return, ReturnValue, NoBlockItems}
 use Rattle.ck_grammar.specs.Statements.{DeclarationItem, StatementItem, FileDeclaration, FunctionDefinition}
 use Rattle.ck_grammar.specs.StatementsWritten as written
@@ -108,37 +110,39 @@ module _ (text : Token → List ℕ) where
   -- statements between `begin` and `end`, declarations as they are written
   abbrev mutual
     stated : Statement → List (List ℕ) → List (List ℕ)
-    stated s more = codes "begin" ∷ stated_by s (codes "end" ∷ more)
-
-    stated_by : Statement → List (List ℕ) → List (List ℕ)
-    stated_by (Block opening items closing) more = text opening ∷ listed items (text closing ∷ more)
-    stated_by (Empty semicolon) more = text semicolon ∷ more
-    stated_by (ExpressionStatement e semicolon) more = grouped e (text semicolon ∷ more)
-    stated_by (If keyword opening e closing s) more =
-        text keyword ∷ text opening ∷ grouped e (text closing ∷ stated s more)
-    stated_by (IfElse keyword opening e closing s else_ t) more =
-        text keyword ∷ text opening ∷ grouped e (text closing ∷ stated s (text else_ ∷ stated t more))
-    stated_by (Switch keyword opening e closing s) more =
-        text keyword ∷ text opening ∷ grouped e (text closing ∷ stated s more)
-    stated_by (While keyword opening e closing s) more =
-        text keyword ∷ text opening ∷ grouped e (text closing ∷ stated s more)
-    stated_by (Do keyword s while_ opening e closing semicolon) more =
-        text keyword ∷ stated s (text while_ ∷ text opening ∷ grouped e (text closing ∷ text semicolon ∷ more))
-    stated_by (For keyword opening start e semicolon f closing s) more =
+    stated (Block opening items closing) more = text opening ∷ listed items (text closing ∷ more)
+    stated (Empty semicolon) more = text semicolon ∷ more
+    stated (ExpressionStatement e semicolon) more = grouped e (text semicolon ∷ more)
+    stated (If keyword opening e closing s) more =
+        text keyword ∷ text opening ∷ grouped e (text closing ∷ codes "begin" ∷ stated s (codes "end" ∷ more))
+    stated (IfElse keyword opening e closing s else_ t) more =
+        text keyword ∷ text opening ∷ grouped e
+            (text closing ∷ codes "begin" ∷ stated s
+            (codes "end" ∷ text else_ ∷ codes "begin" ∷ stated t (codes "end" ∷ more)))
+    stated (Switch keyword opening e closing s) more =
+        text keyword ∷ text opening ∷ grouped e (text closing ∷ codes "begin" ∷ stated s (codes "end" ∷ more))
+    stated (While keyword opening e closing s) more =
+        text keyword ∷ text opening ∷ grouped e (text closing ∷ codes "begin" ∷ stated s (codes "end" ∷ more))
+    stated (Do keyword s while_ opening e closing semicolon) more =
+        text keyword ∷ codes "begin" ∷ stated s
+            (codes "end" ∷ text while_ ∷ text opening ∷ grouped e (text closing ∷ text semicolon ∷ more))
+    stated (For keyword opening start e semicolon f closing s) more =
         text keyword ∷ text opening
-        ∷ started start (maybe e (text semicolon ∷ maybe f (text closing ∷ stated s more)))
-    stated_by (Case keyword e colon s) more = text keyword ∷ grouped e (text colon ∷ stated s more)
-    stated_by (Default keyword colon s) more = text keyword ∷ text colon ∷ stated s more
-    stated_by (Label name colon s) more = text name ∷ text colon ∷ stated s more
-    stated_by (Goto keyword label semicolon) more = text keyword ∷ text label ∷ text semicolon ∷ more
-    stated_by (Jump keyword semicolon) more = text keyword ∷ text semicolon ∷ more
-    stated_by (Return keyword semicolon) more = text keyword ∷ text semicolon ∷ more
-    stated_by (ReturnValue keyword e semicolon) more = text keyword ∷ grouped e (text semicolon ∷ more)
+        ∷ started start
+            (maybe e (text semicolon ∷ maybe f (text closing ∷ codes "begin" ∷ stated s (codes "end" ∷ more))))
+    stated (Case keyword e colon s) more =
+        text keyword ∷ grouped e (text colon ∷ codes "begin" ∷ stated s (codes "end" ∷ more))
+    stated (Default keyword colon s) more = text keyword ∷ text colon ∷ codes "begin" ∷ stated s (codes "end" ∷ more)
+    stated (Label name colon s) more = text name ∷ text colon ∷ codes "begin" ∷ stated s (codes "end" ∷ more)
+    stated (Goto keyword label semicolon) more = text keyword ∷ text label ∷ text semicolon ∷ more
+    stated (Jump keyword semicolon) more = text keyword ∷ text semicolon ∷ more
+    stated (Return keyword semicolon) more = text keyword ∷ text semicolon ∷ more
+    stated (ReturnValue keyword e semicolon) more = text keyword ∷ grouped e (text semicolon ∷ more)
 
     listed : BlockItems → List (List ℕ) → List (List ℕ)
     listed NoBlockItems more = more
     listed (DeclarationItem d rest) more = before (written.declaration d []) (listed rest more)
-    listed (StatementItem s rest) more = stated s (listed rest more)
+    listed (StatementItem s rest) more = codes "begin" ∷ stated s (codes "end" ∷ listed rest more)
 
   -- declarations and function definitions, each between `begin` and `end`
   abbrev filed : List External → List (List ℕ)
