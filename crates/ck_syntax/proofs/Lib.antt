@@ -1,8 +1,11 @@
+-- Laws for the crates above: the views, production by production, and rows that loops push
 pub mod Equations
-pub mod FirstLemmas
-pub mod InFront
 pub mod InitialiserEquations
-pub mod Rows
 pub mod StatementEquations
-pub mod WalksGrown
-mod WorkedParts
+pub mod GrowingRows
+-- First and last tokens
+mod EndLemmas
+-- From the data of recursive types to lists
+pub mod Rows
+-- Worked texts
+mod WorkedCalls

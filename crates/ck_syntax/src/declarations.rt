@@ -1,26 +1,24 @@
 //! Declarations, and what `for` begins with: the types, and a builder for each production.
-ghost use Rattle.std.specs.Prelude.{◌≡◌};
+ghost use Rattle.std.specs.Prelude.{◌≡◌, IfOk};
 ghost use Rattle.ck_grammar.specs.Statements as plain;
 ghost use Rattle.ck_syntax.specs.ExpressionViews.{expr_tree, declarator_tree, specifier_trees};
-ghost use Rattle.ck_syntax.specs.InitialiserViews.{init_tree};
-ghost use Rattle.ck_syntax.specs.DeclarationViews.{declared_before, declared_trees, declared_tree, declaration_tree, for_start_tree, initialised_before};
+ghost use Rattle.ck_syntax.specs.DeclarationViews.{declared_before, declared_trees, declared_tree, declaration_tree};
+ghost use Rattle.ck_syntax.specs.DeclarationViews.{for_start_tree, initialised_before};
 
 use crate::declarators::Declarator;
 use crate::expressions::Expr;
 use crate::initialisers::Init;
 use crate::specifiers::Specifier;
-use ck_base::Token;
+use ck_base::{OutOfMemory, Token};
 use std::alloc::Allocator;
 
 /// `=` and an initialiser (C99 6.7).
-#[derive(Drop)]
 pub struct Initialiser<A: Allocator> {
     pub equals: Token,
     pub init: Init<A>,
 }
 
 /// A comma and a further declarator, maybe with an initialiser (6.7).
-#[derive(Drop)]
 pub struct NextDeclared<A: Allocator> {
     pub comma: Token,
     pub declarator: Declarator<A>,
@@ -51,24 +49,29 @@ pub enum ForStart<A: Allocator> {
     /// expression `;`
     ExpressionStatement { expr: Expr<A>, semicolon: Token },
     /// A declaration.
-    Declares(Decl<A>),
+    Declares(Box<Decl<A>, A>),
 }
 
-// By hand, since a derived drop is written out in every function that lets a tree go.
-impl<A: Allocator> Drop for ForStart<A> {
+// Drops are written by hand: a derived one is written out wherever a tree is let go, here and in the crates above.
+impl<A: Allocator> Drop for Initialiser<A> {
     fn drop(self) {
-        match self {
-            ForStart::Empty(_held) => {}
-            ForStart::ExpressionStatement {
-                expr: _expr,
-                semicolon: _semicolon,
-            } => {}
-            ForStart::Declares(_held) => {}
-        }
+        let Initialiser {
+            equals: _equals,
+            init: _init,
+        } = self;
     }
 }
 
-// By hand, since a derived drop is written out in every function that lets a tree go.
+impl<A: Allocator> Drop for NextDeclared<A> {
+    fn drop(self) {
+        let NextDeclared {
+            comma: _comma,
+            declarator: _declarator,
+            initialiser: _initialiser,
+        } = self;
+    }
+}
+
 impl<A: Allocator> Drop for Decl<A> {
     fn drop(self) {
         match self {
@@ -83,6 +86,19 @@ impl<A: Allocator> Drop for Decl<A> {
                 others: _others,
                 semicolon: _semicolon,
             } => {}
+        }
+    }
+}
+
+impl<A: Allocator> Drop for ForStart<A> {
+    fn drop(self) {
+        match self {
+            ForStart::Empty(_semicolon) => {}
+            ForStart::ExpressionStatement {
+                expr: _expr,
+                semicolon: _semicolon,
+            } => {}
+            ForStart::Declares(_declaration) => {}
         }
     }
 }
@@ -105,6 +121,13 @@ impl<A: Allocator> NextDeclared<A> {
 }
 
 impl<A: Allocator> Decl<A> {
+    /// The declaration in a box, as builders take it.
+    pub fn boxed(self, alloc: A) -> Result<Box<Decl<A>, A>, OutOfMemory>
+        ensures { IfOk result (λ boxed. boxed.value ≡ self) }
+    {
+        Ok(Box::new(alloc, self)?)
+    }
+
     /// Specifiers and `;`
     pub fn bare(specifiers: Vec<Specifier<A>, A>, semicolon: Token) -> Decl<A>
         ensures { declaration_tree result ≡ plain.Bare (specifier_trees specifiers.items) semicolon }
@@ -124,8 +147,7 @@ impl<A: Allocator> Decl<A> {
         semicolon: Token,
     ) -> Decl<A>
         ensures { declaration_tree result ≡ plain.Declares (specifier_trees specifiers.items)
-            (declarator_tree declarator) (declared_tree initialiser (declared_trees others.items))
-            semicolon }
+            (declarator_tree declarator) (declared_tree initialiser (declared_trees others.items)) semicolon }
     {
         Decl::Declares {
             specifiers,
@@ -146,15 +168,15 @@ impl<A: Allocator> ForStart<A> {
     }
 
     /// expression `;`
-    pub fn evaluates(expr: Expr<A>, semicolon: Token) -> ForStart<A>
+    pub fn expression(expr: Expr<A>, semicolon: Token) -> ForStart<A>
         ensures { for_start_tree result ≡ plain.StartExpr (expr_tree expr) semicolon }
     {
         ForStart::ExpressionStatement { expr, semicolon }
     }
 
     /// A declaration.
-    pub fn declares(declaration: Decl<A>) -> ForStart<A>
-        ensures { for_start_tree result ≡ plain.StartDeclaration (declaration_tree declaration) }
+    pub fn declaration(declaration: Box<Decl<A>, A>) -> ForStart<A>
+        ensures { for_start_tree result ≡ plain.StartDeclaration (declaration_tree declaration.value) }
     {
         ForStart::Declares(declaration)
     }

@@ -1,17 +1,18 @@
-//! Declarators and parameters: the types, and a builder for each production.
+//! Declarators, type names and parameters: the types, and a builder for each production.
 ghost use Rattle.std.specs.Prelude.{◌≡◌, IfOk};
 ghost use Rattle.ck_grammar.specs.Trees as plain;
-ghost use Rattle.ck_syntax.specs.ExpressionViews.{expr_tree, specifier_trees, declarator_tree, declarator_before, dim_before, dim_trees, parameters_tree, parameter_before, parameter_trees};
+ghost use Rattle.ck_syntax.specs.ExpressionViews.{expr_tree, specifier_trees, declarator_tree, declarator_before};
+ghost use Rattle.ck_syntax.specs.ExpressionViews.{dim_before, dim_trees, parameters_tree, parameter_before};
+ghost use Rattle.ck_syntax.specs.ExpressionViews.{parameter_trees};
 
 use crate::expressions::Expr;
 use crate::specifiers::Specifier;
 use ck_base::{OutOfMemory, Token};
 use std::alloc::Allocator;
 
-/// A declarator, or the abstract declarator of a type name (C99 6.7.5, 6.7.6): `*` and qualifiers, what stands in the
+/// A declarator, or the abstract declarator of a type name (C99 6.7.5, 6.7.6): `*` and qualifiers, what is in the
 /// middle, dimensions and parameters.
 #[cycle(trees)]
-#[derive(Drop)]
 pub enum Declarator<A: Allocator> {
     /// Nothing in the middle.
     Abstract {
@@ -34,9 +35,17 @@ pub enum Declarator<A: Allocator> {
     },
 }
 
+/// `(` type name `)`, as in a cast and after `sizeof` (6.7.6).
+#[cycle(trees)]
+pub struct TypeName<A: Allocator> {
+    pub opening: Token,
+    pub specifiers: Vec<Specifier<A>, A>,
+    pub declarator: Declarator<A>,
+    pub closing: Token,
+}
+
 /// A comma and a further declarator.
 #[cycle(trees)]
-#[derive(Drop)]
 pub struct NextDeclarator<A: Allocator> {
     pub comma: Token,
     pub declarator: Declarator<A>,
@@ -44,7 +53,6 @@ pub struct NextDeclarator<A: Allocator> {
 
 /// A suffix of a declarator (6.7.5.2, 6.7.5.3).
 #[cycle(trees)]
-#[derive(Drop)]
 pub enum Dim<A: Allocator> {
     /// `[` `]`
     Open {
@@ -54,20 +62,19 @@ pub enum Dim<A: Allocator> {
     /// `[` conditional expression `]`
     Sized {
         opening: Token,
-        size: Expr<A>,
+        size: Box<Expr<A>, A>,
         closing: Token,
     },
     /// `(` parameters `)`
     Function {
         opening: Token,
-        parameters: Parameters<A>,
+        parameters: Box<Parameters<A>, A>,
         closing: Token,
     },
 }
 
 /// Parameters (6.7.5.3).
 #[cycle(trees)]
-#[derive(Drop)]
 pub enum Parameters<A: Allocator> {
     /// None.
     Empty,
@@ -84,7 +91,6 @@ pub enum Parameters<A: Allocator> {
 
 /// A comma and a further parameter.
 #[cycle(trees)]
-#[derive(Drop)]
 pub struct NextParameter<A: Allocator> {
     pub comma: Token,
     pub specifiers: Vec<Specifier<A>, A>,
@@ -98,7 +104,111 @@ pub struct Ellipsis {
     pub dots: Token,
 }
 
+// Drops are written by hand: a derived one is written out wherever a tree is let go, here and in the crates above.
+impl<A: Allocator> Drop for Declarator<A> {
+    #[cycle(trees)]
+    fn drop(self) {
+        match self {
+            Declarator::Abstract {
+                stars: _stars,
+                dims: _dims,
+            } => {}
+            Declarator::Named {
+                stars: _stars,
+                name: _name,
+                dims: _dims,
+            } => {}
+            Declarator::Nested {
+                stars: _stars,
+                opening: _opening,
+                inner: _inner,
+                closing: _closing,
+                dims: _dims,
+            } => {}
+        }
+    }
+}
+
+impl<A: Allocator> Drop for TypeName<A> {
+    #[cycle(trees)]
+    fn drop(self) {
+        let TypeName {
+            opening: _opening,
+            specifiers: _specifiers,
+            declarator: _declarator,
+            closing: _closing,
+        } = self;
+    }
+}
+
+impl<A: Allocator> Drop for NextDeclarator<A> {
+    #[cycle(trees)]
+    fn drop(self) {
+        let NextDeclarator {
+            comma: _comma,
+            declarator: _declarator,
+        } = self;
+    }
+}
+
+impl<A: Allocator> Drop for Dim<A> {
+    #[cycle(trees)]
+    fn drop(self) {
+        match self {
+            Dim::Open {
+                opening: _opening,
+                closing: _closing,
+            } => {}
+            Dim::Sized {
+                opening: _opening,
+                size: _size,
+                closing: _closing,
+            } => {}
+            Dim::Function {
+                opening: _opening,
+                parameters: _parameters,
+                closing: _closing,
+            } => {}
+        }
+    }
+}
+
+impl<A: Allocator> Drop for Parameters<A> {
+    #[cycle(trees)]
+    fn drop(self) {
+        match self {
+            Parameters::Empty => {}
+            Parameters::Void(_token) => {}
+            Parameters::Listed {
+                specifiers: _specifiers,
+                declarator: _declarator,
+                others: _others,
+                ellipsis: _ellipsis,
+            } => {}
+        }
+    }
+}
+
+impl<A: Allocator> Drop for NextParameter<A> {
+    #[cycle(trees)]
+    fn drop(self) {
+        let NextParameter {
+            comma: _comma,
+            specifiers: _specifiers,
+            declarator: _declarator,
+        } = self;
+    }
+}
+
+#[tactic(auto, using(crate::proofs::Equations::views))]
 impl<A: Allocator> Declarator<A> {
+    /// The declarator in a box, as builders take it.
+    pub fn boxed(self, alloc: A) -> Result<Box<Declarator<A>, A>, OutOfMemory>
+        ensures { IfOk result (λ boxed. boxed.value ≡ self) }
+    {
+        Ok(Box::new(alloc, self)?)
+    }
+
     /// Nothing in the middle.
     pub fn nameless(stars: Vec<Token, A>, dims: Vec<Dim<A>, A>) -> Declarator<A>
         ensures { declarator_tree result ≡ plain.Abstract stars.items (dim_trees dims.items) }
@@ -115,24 +225,31 @@ impl<A: Allocator> Declarator<A> {
 
     /// `(` declarator `)` in the middle.
     pub fn nested(
-        alloc: A,
         stars: Vec<Token, A>,
         opening: Token,
-        inner: Declarator<A>,
+        inner: Box<Declarator<A>, A>,
         closing: Token,
         dims: Vec<Dim<A>, A>,
-    ) -> Result<Declarator<A>, OutOfMemory>
-        ensures { IfOk result (λ tree. declarator_tree tree ≡ plain.Nested stars.items opening
-            (declarator_tree inner) closing (dim_trees dims.items)) }
+    ) -> Declarator<A>
+        ensures { declarator_tree result ≡ plain.Nested stars.items opening (declarator_tree inner.value) closing
+            (dim_trees dims.items) }
     {
-        let inner = Box::new(alloc, inner)?;
-        Ok(Declarator::Nested {
+        Declarator::Nested {
             stars,
             opening,
             inner,
             closing,
             dims,
-        })
+        }
+    }
+}
+
+impl<A: Allocator> TypeName<A> {
+    /// The type name in a box, as builders take it.
+    pub fn boxed(self, alloc: A) -> Result<Box<TypeName<A>, A>, OutOfMemory>
+        ensures { IfOk result (λ boxed. boxed.value ≡ self) }
+    {
+        Ok(Box::new(alloc, self)?)
     }
 }
 
@@ -145,17 +262,19 @@ impl<A: Allocator> NextDeclarator<A> {
     }
 }
 
+#[tactic(auto, using(crate::proofs::Equations::views))]
 impl<A: Allocator> Dim<A> {
     /// `[` `]`
     pub fn unspecified(opening: Token, closing: Token) -> Dim<A>
-        ensures { dim_before result ≡ plain.Open opening closing }
+        ensures { (rest : plain.Dims) → dim_before result rest ≡ plain.Open opening closing rest }
     {
         Dim::Open { opening, closing }
     }
 
     /// `[` conditional expression `]`
-    pub fn sized(opening: Token, size: Expr<A>, closing: Token) -> Dim<A>
-        ensures { dim_before result ≡ plain.Sized opening (expr_tree size) closing }
+    pub fn sized(opening: Token, size: Box<Expr<A>, A>, closing: Token) -> Dim<A>
+        ensures { (rest : plain.Dims) → dim_before result rest
+            ≡ plain.Sized opening (expr_tree size.value) closing rest }
     {
         Dim::Sized {
             opening,
@@ -165,8 +284,9 @@ impl<A: Allocator> Dim<A> {
     }
 
     /// `(` parameters `)`
-    pub fn function(opening: Token, parameters: Parameters<A>, closing: Token) -> Dim<A>
-        ensures { dim_before result ≡ plain.Function opening (parameters_tree parameters) closing }
+    pub fn function(opening: Token, parameters: Box<Parameters<A>, A>, closing: Token) -> Dim<A>
+        ensures { (rest : plain.Dims) → dim_before result rest
+            ≡ plain.Function opening (parameters_tree parameters.value) closing rest }
     {
         Dim::Function {
             opening,
@@ -176,7 +296,15 @@ impl<A: Allocator> Dim<A> {
     }
 }
 
+#[tactic(auto, using(crate::proofs::Equations::views))]
 impl<A: Allocator> Parameters<A> {
+    /// The parameters in a box, as builders take them.
+    pub fn boxed(self, alloc: A) -> Result<Box<Parameters<A>, A>, OutOfMemory>
+        ensures { IfOk result (λ boxed. boxed.value ≡ self) }
+    {
+        Ok(Box::new(alloc, self)?)
+    }
+
     /// None.
     pub fn empty() -> Parameters<A>
         ensures { parameters_tree result ≡ plain.NoParams }

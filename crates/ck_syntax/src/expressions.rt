@@ -1,11 +1,10 @@
 //! Expressions: the types, and a builder for each production.
 ghost use Rattle.std.specs.Prelude.{◌≡◌, IfOk};
 ghost use Rattle.ck_grammar.specs.Trees as plain;
-ghost use Rattle.ck_syntax.specs.FirstTokens.{IsFirst};
-ghost use Rattle.ck_syntax.specs.ExpressionViews.{expr_tree, operand_before, operand_trees, suffix_before, suffix_trees, specifier_trees, declarator_tree};
+ghost use Rattle.ck_syntax.specs.ExpressionViews.{expr_tree, operand_before, operand_trees, suffix_before};
+ghost use Rattle.ck_syntax.specs.ExpressionViews.{suffix_trees, specifier_trees, declarator_tree};
 
-use crate::declarators::Declarator;
-use crate::specifiers::Specifier;
+use crate::declarators::TypeName;
 use ck_base::{OutOfMemory, Token};
 use std::alloc::Allocator;
 
@@ -40,17 +39,11 @@ pub enum Expr<A: Allocator> {
     /// `sizeof` `(` type name `)`
     SizeofType {
         keyword: Token,
-        opening: Token,
-        specifiers: Vec<Specifier<A>, A>,
-        declarator: Box<Declarator<A>, A>,
-        closing: Token,
+        type_name: Box<TypeName<A>, A>,
     },
     /// `(` type name `)` operand
     Cast {
-        opening: Token,
-        specifiers: Vec<Specifier<A>, A>,
-        declarator: Box<Declarator<A>, A>,
-        closing: Token,
+        type_name: Box<TypeName<A>, A>,
         operand: Box<Expr<A>, A>,
     },
     /// Operands of one left-associative level, from `*` to `||`, or of the comma.
@@ -76,7 +69,6 @@ pub enum Expr<A: Allocator> {
 
 /// An operator and its right operand; in a call, a comma and an argument.
 #[cycle(trees)]
-#[derive(Drop)]
 pub struct Operand<A: Allocator> {
     pub operator: Token,
     pub operand: Expr<A>,
@@ -84,12 +76,11 @@ pub struct Operand<A: Allocator> {
 
 /// A suffix of a primary expression (6.5.2).
 #[cycle(trees)]
-#[derive(Drop)]
 pub enum Suffix<A: Allocator> {
     /// `[` expression `]`
     Index {
         opening: Token,
-        index: Expr<A>,
+        index: Box<Expr<A>, A>,
         closing: Token,
     },
     /// `(` `)`
@@ -100,7 +91,7 @@ pub enum Suffix<A: Allocator> {
     /// `(` argument, and with commas before them the others `)`
     Call {
         opening: Token,
-        first: Expr<A>,
+        first: Box<Expr<A>, A>,
         others: Vec<Operand<A>, A>,
         closing: Token,
     },
@@ -113,13 +104,13 @@ pub enum Suffix<A: Allocator> {
     PostIncrement(Token),
 }
 
-// By hand, since a derived drop is written out in every function that lets a tree go.
+// Drops are written by hand: a derived one is written out wherever a tree is let go, here and in the crates above.
 impl<A: Allocator> Drop for Expr<A> {
     #[cycle(trees)]
     fn drop(self) {
         match self {
-            Expr::Name(_held) => {}
-            Expr::Constant(_held) => {}
+            Expr::Name(_token) => {}
+            Expr::Constant(_token) => {}
             Expr::Strings {
                 first: _first,
                 others: _others,
@@ -139,16 +130,10 @@ impl<A: Allocator> Drop for Expr<A> {
             } => {}
             Expr::SizeofType {
                 keyword: _keyword,
-                opening: _opening,
-                specifiers: _specifiers,
-                declarator: _declarator,
-                closing: _closing,
+                type_name: _type_name,
             } => {}
             Expr::Cast {
-                opening: _opening,
-                specifiers: _specifiers,
-                declarator: _declarator,
-                closing: _closing,
+                type_name: _type_name,
                 operand: _operand,
             } => {}
             Expr::Chain {
@@ -171,7 +156,53 @@ impl<A: Allocator> Drop for Expr<A> {
     }
 }
 
+impl<A: Allocator> Drop for Operand<A> {
+    #[cycle(trees)]
+    fn drop(self) {
+        let Operand {
+            operator: _operator,
+            operand: _operand,
+        } = self;
+    }
+}
+
+impl<A: Allocator> Drop for Suffix<A> {
+    #[cycle(trees)]
+    fn drop(self) {
+        match self {
+            Suffix::Index {
+                opening: _opening,
+                index: _index,
+                closing: _closing,
+            } => {}
+            Suffix::CallEmpty {
+                opening: _opening,
+                closing: _closing,
+            } => {}
+            Suffix::Call {
+                opening: _opening,
+                first: _first,
+                others: _others,
+                closing: _closing,
+            } => {}
+            Suffix::MemberAccess {
+                operator: _operator,
+                member: _member,
+            } => {}
+            Suffix::PostIncrement(_operator) => {}
+        }
+    }
+}
+
+#[tactic(auto, using(crate::proofs::Equations::views))]
 impl<A: Allocator> Expr<A> {
+    /// The expression in a box, as builders take it.
+    pub fn boxed(self, alloc: A) -> Result<Box<Expr<A>, A>, OutOfMemory>
+        ensures { IfOk result (λ boxed. boxed.value ≡ self) }
+    {
+        Ok(Box::new(alloc, self)?)
+    }
+
     /// A name.
     pub fn name(token: Token) -> Expr<A>
         ensures { expr_tree result ≡ plain.Name token }
@@ -192,168 +223,86 @@ impl<A: Allocator> Expr<A> {
     {
         Expr::Strings { first, others }
     }
-}
 
-impl<A: Allocator> Expr<A> {
-    /// The token that the expression is written with first.
-    pub fn first_token(&self) -> Token
-        ensures { IsFirst (expr_tree self.now) result }
-    {
-        match self {
-            Expr::Name(token) => *token,
-            Expr::Constant(token) => *token,
-            Expr::Strings { first, .. } => *first,
-            Expr::Paren { opening, .. } => *opening,
-            Expr::Cast { opening, .. } => *opening,
-            Expr::Unary { operator, .. } => *operator,
-            Expr::SizeofType { keyword, .. } => *keyword,
-            Expr::Postfix { primary, .. } => primary.first_token(),
-            Expr::Chain { first, .. } => first.first_token(),
-            Expr::Conditional { test, .. } => test.first_token(),
-            Expr::Assignment { target, .. } => target.first_token(),
-        }
-    }
-}
-
-impl<A: Allocator + Copy> Expr<A> {
     /// `(` expression `)`
-    pub fn paren(
-        alloc: A,
-        opening: Token,
-        inner: Expr<A>,
-        closing: Token,
-    ) -> Result<Expr<A>, OutOfMemory>
-        ensures { IfOk result (λ tree. expr_tree tree ≡ plain.Paren opening (expr_tree inner) closing) }
+    pub fn paren(opening: Token, inner: Box<Expr<A>, A>, closing: Token) -> Expr<A>
+        ensures { expr_tree result ≡ plain.Paren opening (expr_tree inner.value) closing }
     {
-        let inner = Box::new(alloc, inner)?;
-        Ok(Expr::Paren {
+        Expr::Paren {
             opening,
             inner,
             closing,
-        })
+        }
     }
 
     /// A primary expression and its suffixes.
-    pub fn suffixed(
-        alloc: A,
-        primary: Expr<A>,
-        suffixes: Vec<Suffix<A>, A>,
-    ) -> Result<Expr<A>, OutOfMemory>
-        ensures { IfOk result (λ tree. expr_tree tree
-            ≡ plain.Postfix (expr_tree primary) (suffix_trees suffixes.items)) }
+    pub fn postfix(primary: Box<Expr<A>, A>, suffixes: Vec<Suffix<A>, A>) -> Expr<A>
+        ensures { expr_tree result ≡ plain.Postfix (expr_tree primary.value) (suffix_trees suffixes.items) }
     {
-        let primary = Box::new(alloc, primary)?;
-        Ok(Expr::Postfix { primary, suffixes })
+        Expr::Postfix { primary, suffixes }
     }
 
     /// A prefix operator or `sizeof`, and an operand.
-    pub fn prefixed(alloc: A, operator: Token, operand: Expr<A>) -> Result<Expr<A>, OutOfMemory>
-        ensures { IfOk result (λ tree. expr_tree tree ≡ plain.Unary operator (expr_tree operand)) }
+    pub fn unary(operator: Token, operand: Box<Expr<A>, A>) -> Expr<A>
+        ensures { expr_tree result ≡ plain.Unary operator (expr_tree operand.value) }
     {
-        let operand = Box::new(alloc, operand)?;
-        Ok(Expr::Unary { operator, operand })
+        Expr::Unary { operator, operand }
     }
 
     /// `sizeof` `(` type name `)`
-    pub fn sizeof_type(
-        alloc: A,
-        keyword: Token,
-        opening: Token,
-        specifiers: Vec<Specifier<A>, A>,
-        declarator: Declarator<A>,
-        closing: Token,
-    ) -> Result<Expr<A>, OutOfMemory>
-        ensures { IfOk result (λ tree. expr_tree tree ≡ plain.SizeofType keyword opening
-            (specifier_trees specifiers.items) (declarator_tree declarator) closing) }
+    pub fn sizeof_type(keyword: Token, type_name: Box<TypeName<A>, A>) -> Expr<A>
+        ensures { expr_tree result ≡ plain.SizeofType keyword type_name.value.opening
+            (specifier_trees type_name.value.specifiers.items) (declarator_tree type_name.value.declarator)
+            type_name.value.closing }
     {
-        let declarator = Box::new(alloc, declarator)?;
-        Ok(Expr::SizeofType {
-            keyword,
-            opening,
-            specifiers,
-            declarator,
-            closing,
-        })
+        Expr::SizeofType { keyword, type_name }
     }
 
     /// `(` type name `)` operand
-    pub fn cast(
-        alloc: A,
-        opening: Token,
-        specifiers: Vec<Specifier<A>, A>,
-        declarator: Declarator<A>,
-        closing: Token,
-        operand: Expr<A>,
-    ) -> Result<Expr<A>, OutOfMemory>
-        ensures { IfOk result (λ tree. expr_tree tree ≡ plain.Cast opening
-            (specifier_trees specifiers.items) (declarator_tree declarator) closing
-            (expr_tree operand)) }
+    pub fn cast(type_name: Box<TypeName<A>, A>, operand: Box<Expr<A>, A>) -> Expr<A>
+        ensures { expr_tree result ≡ plain.Cast type_name.value.opening
+            (specifier_trees type_name.value.specifiers.items) (declarator_tree type_name.value.declarator)
+            type_name.value.closing (expr_tree operand.value) }
     {
-        let declarator = Box::new(alloc, declarator)?;
-        let operand = Box::new(alloc, operand)?;
-        Ok(Expr::Cast {
-            opening,
-            specifiers,
-            declarator,
-            closing,
-            operand,
-        })
+        Expr::Cast { type_name, operand }
     }
 
     /// Operands of one left-associative level, or of the comma.
-    pub fn chain(
-        alloc: A,
-        first: Expr<A>,
-        operands: Vec<Operand<A>, A>,
-    ) -> Result<Expr<A>, OutOfMemory>
-        ensures { IfOk result (λ tree. expr_tree tree
-            ≡ plain.Chain (expr_tree first) (operand_trees operands.items)) }
+    pub fn chain(first: Box<Expr<A>, A>, operands: Vec<Operand<A>, A>) -> Expr<A>
+        ensures { expr_tree result ≡ plain.Chain (expr_tree first.value) (operand_trees operands.items) }
     {
-        let first = Box::new(alloc, first)?;
-        Ok(Expr::Chain { first, operands })
+        Expr::Chain { first, operands }
     }
 
     /// test `?` expression `:` expression
-    pub fn choice(
-        alloc: A,
-        test: Expr<A>,
+    pub fn conditional(
+        test: Box<Expr<A>, A>,
         question: Token,
-        then: Expr<A>,
+        then: Box<Expr<A>, A>,
         colon: Token,
-        otherwise: Expr<A>,
-    ) -> Result<Expr<A>, OutOfMemory>
-        ensures { IfOk result (λ tree. expr_tree tree ≡ plain.Conditional (expr_tree test) question
-            (expr_tree then) colon (expr_tree otherwise)) }
+        otherwise: Box<Expr<A>, A>,
+    ) -> Expr<A>
+        ensures { expr_tree result ≡ plain.Conditional (expr_tree test.value) question (expr_tree then.value) colon
+            (expr_tree otherwise.value) }
     {
-        let test = Box::new(alloc, test)?;
-        let then = Box::new(alloc, then)?;
-        let otherwise = Box::new(alloc, otherwise)?;
-        Ok(Expr::Conditional {
+        Expr::Conditional {
             test,
             question,
             then,
             colon,
             otherwise,
-        })
+        }
     }
 
     /// Left side, assignment operator, right side.
-    pub fn assigned(
-        alloc: A,
-        target: Expr<A>,
-        operator: Token,
-        value: Expr<A>,
-    ) -> Result<Expr<A>, OutOfMemory>
-        ensures { IfOk result (λ tree. expr_tree tree
-            ≡ plain.Assignment (expr_tree target) operator (expr_tree value)) }
+    pub fn assignment(target: Box<Expr<A>, A>, operator: Token, value: Box<Expr<A>, A>) -> Expr<A>
+        ensures { expr_tree result ≡ plain.Assignment (expr_tree target.value) operator (expr_tree value.value) }
     {
-        let target = Box::new(alloc, target)?;
-        let value = Box::new(alloc, value)?;
-        Ok(Expr::Assignment {
+        Expr::Assignment {
             target,
             operator,
             value,
-        })
+        }
     }
 }
 
@@ -366,10 +315,12 @@ impl<A: Allocator> Operand<A> {
     }
 }
 
+#[tactic(auto, using(crate::proofs::Equations::views))]
 impl<A: Allocator> Suffix<A> {
     /// `[` expression `]`
-    pub fn index(opening: Token, index: Expr<A>, closing: Token) -> Suffix<A>
-        ensures { suffix_before result ≡ plain.Index opening (expr_tree index) closing }
+    pub fn index(opening: Token, index: Box<Expr<A>, A>, closing: Token) -> Suffix<A>
+        ensures { (rest : plain.Suffixes) → suffix_before result rest
+            ≡ plain.Index opening (expr_tree index.value) closing rest }
     {
         Suffix::Index {
             opening,
@@ -380,7 +331,7 @@ impl<A: Allocator> Suffix<A> {
 
     /// `(` `)`
     pub fn call_empty(opening: Token, closing: Token) -> Suffix<A>
-        ensures { suffix_before result ≡ plain.CallEmpty opening closing }
+        ensures { (rest : plain.Suffixes) → suffix_before result rest ≡ plain.CallEmpty opening closing rest }
     {
         Suffix::CallEmpty { opening, closing }
     }
@@ -388,12 +339,12 @@ impl<A: Allocator> Suffix<A> {
     /// `(` argument, and with commas before them the others `)`
     pub fn call(
         opening: Token,
-        first: Expr<A>,
+        first: Box<Expr<A>, A>,
         others: Vec<Operand<A>, A>,
         closing: Token,
     ) -> Suffix<A>
-        ensures { suffix_before result
-            ≡ plain.Call opening (expr_tree first) (operand_trees others.items) closing }
+        ensures { (rest : plain.Suffixes) → suffix_before result rest
+            ≡ plain.Call opening (expr_tree first.value) (operand_trees others.items) closing rest }
     {
         Suffix::Call {
             opening,
@@ -404,15 +355,15 @@ impl<A: Allocator> Suffix<A> {
     }
 
     /// `.` or `->`, and a member's name.
-    pub fn access(operator: Token, member: Token) -> Suffix<A>
-        ensures { suffix_before result ≡ plain.MemberAccess operator member }
+    pub fn member_access(operator: Token, member: Token) -> Suffix<A>
+        ensures { (rest : plain.Suffixes) → suffix_before result rest ≡ plain.MemberAccess operator member rest }
     {
         Suffix::MemberAccess { operator, member }
     }
 
     /// `++` or `--`
-    pub fn step(operator: Token) -> Suffix<A>
-        ensures { suffix_before result ≡ plain.PostIncrement operator }
+    pub fn post_increment(operator: Token) -> Suffix<A>
+        ensures { (rest : plain.Suffixes) → suffix_before result rest ≡ plain.PostIncrement operator rest }
     {
         Suffix::PostIncrement(operator)
     }

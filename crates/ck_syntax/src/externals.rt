@@ -13,7 +13,6 @@ use ck_base::Token;
 use std::alloc::Allocator;
 
 /// An external declaration (C99 6.9).
-#[derive(Drop)]
 pub enum External<A: Allocator> {
     /// A declaration.
     FileDeclaration(Decl<A>),
@@ -28,21 +27,44 @@ pub enum External<A: Allocator> {
 }
 
 /// A file: its external declarations in their order (6.9).
-#[derive(Drop)]
 pub struct Unit<A: Allocator> {
     pub externals: Vec<External<A>, A>,
 }
 
+// Drops are written by hand: a derived one is written out wherever a tree is let go, here and in the crates above.
+impl<A: Allocator> Drop for External<A> {
+    fn drop(self) {
+        match self {
+            External::FileDeclaration(_declaration) => {}
+            External::FunctionDefinition {
+                specifiers: _specifiers,
+                declarator: _declarator,
+                opening: _opening,
+                items: _items,
+                closing: _closing,
+            } => {}
+        }
+    }
+}
+
+impl<A: Allocator> Drop for Unit<A> {
+    fn drop(self) {
+        let Unit {
+            externals: _externals,
+        } = self;
+    }
+}
+
 impl<A: Allocator> External<A> {
     /// A declaration.
-    pub fn outside(declaration: Decl<A>) -> External<A>
+    pub fn declaration(declaration: Decl<A>) -> External<A>
         ensures { external_tree result ≡ plain.FileDeclaration (declaration_tree declaration) }
     {
         External::FileDeclaration(declaration)
     }
 
     /// A function's definition.
-    pub fn defines(
+    pub fn function(
         specifiers: Vec<Specifier<A>, A>,
         declarator: Declarator<A>,
         opening: Token,

@@ -1,9 +1,14 @@
 //! The syntax trees of the C subset in memory.
 //!
-//! In: tokens, smaller trees and an allocator. Out: one type per kind of node with one variant per
-//! production; for each production a builder, whose clause says which plain tree came of it; and walks
-//! over expressions. What rules it is the views from the trees in memory to the plain trees of
-//! ck_grammar, `specs/ExpressionViews.antt` and its neighbours.
+//! In: tokens, smaller trees, and an allocator for boxes. Out: one type per kind of node with one variant per
+//! production; for each production a builder, whose clause says which plain tree came of it; first and last
+//! tokens, and the name and shape of a declarator. What rules it is the views from the trees in memory to the
+//! plain trees of ck_grammar, `specs/ExpressionViews.antt` and its neighbours. A builder takes its parts as
+//! the tree holds them, so it can't fail: `boxed` of each type that is boxed is all that takes memory.
+//!
+//! Crates above rest on `proofs/Equations.antt` and its neighbours, the plain tree of each production under the
+//! rulesets `views`, `initialiser_views` and `statement_views`, and on `proofs/GrowingRows.antt`, rows that a
+//! loop pushes.
 //!
 //! Left-associative operators, suffixes, pointer stars and items are vectors, so no walk and no drop goes
 //! deeper than the nesting. It must not know: types, scopes, and how tokens are cut or read.
@@ -11,17 +16,23 @@
 
 mod declarations;
 mod declarators;
+mod ends;
 mod expressions;
 mod externals;
 mod initialisers;
+mod shapes;
 mod specifiers;
 mod statements;
-mod walks;
 
 pub use declarations::{Decl, ForStart, Initialiser, NextDeclared};
-pub use declarators::{Declarator, Dim, Ellipsis, NextDeclarator, NextParameter, Parameters};
+pub use declarators::{
+    Declarator, Dim, Ellipsis, NextDeclarator, NextParameter, Parameters, TypeName,
+};
 pub use expressions::{Expr, Operand, Suffix};
 pub use externals::{External, Unit};
-pub use initialisers::{Designation, Designator, FrontInit, Init};
-pub use specifiers::{Enumerator, FrontEnumerator, Member, Specifier};
-pub use statements::{BlockItem, Stmt};
+pub use initialisers::{BracedInit, Designation, Designator, EarlierInit, Init};
+pub use shapes::Shape;
+pub use specifiers::{
+    EarlierEnumerator, EnumSpecifier, Enumerator, Member, Specifier, StructSpecifier,
+};
+pub use statements::{BlockItem, Controlling, ForHead, Stmt};

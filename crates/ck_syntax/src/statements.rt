@@ -10,7 +10,24 @@ use crate::expressions::Expr;
 use ck_base::{OutOfMemory, Token};
 use std::alloc::Allocator;
 
-/// A statement (C99 6.8).
+/// `(` controlling expression `)` of `if`, `switch`, `while` and `do` (C99 6.8.4, 6.8.5).
+pub struct Controlling<A: Allocator> {
+    pub opening: Token,
+    pub expr: Expr<A>,
+    pub closing: Token,
+}
+
+/// `(` start [expression] `;` [expression] `)` of `for` (6.8.5.3).
+pub struct ForHead<A: Allocator> {
+    pub opening: Token,
+    pub start: ForStart<A>,
+    pub test: Option<Expr<A>>,
+    pub semicolon: Token,
+    pub step: Option<Expr<A>>,
+    pub closing: Token,
+}
+
+/// A statement (6.8).
 #[cycle(statements)]
 pub enum Stmt<A: Allocator> {
     /// `{` items `}`
@@ -29,17 +46,13 @@ pub enum Stmt<A: Allocator> {
     /// `if` `(` expression `)` statement
     If {
         keyword: Token,
-        opening: Token,
-        test: Expr<A>,
-        closing: Token,
+        test: Box<Controlling<A>, A>,
         then: Box<Stmt<A>, A>,
     },
     /// `if` `(` expression `)` statement `else` statement
     IfElse {
         keyword: Token,
-        opening: Token,
-        test: Expr<A>,
-        closing: Token,
+        test: Box<Controlling<A>, A>,
         then: Box<Stmt<A>, A>,
         else_keyword: Token,
         otherwise: Box<Stmt<A>, A>,
@@ -47,17 +60,13 @@ pub enum Stmt<A: Allocator> {
     /// `switch` `(` expression `)` statement
     Switch {
         keyword: Token,
-        opening: Token,
-        value: Expr<A>,
-        closing: Token,
+        value: Box<Controlling<A>, A>,
         body: Box<Stmt<A>, A>,
     },
     /// `while` `(` expression `)` statement
     While {
         keyword: Token,
-        opening: Token,
-        test: Expr<A>,
-        closing: Token,
+        test: Box<Controlling<A>, A>,
         body: Box<Stmt<A>, A>,
     },
     /// `do` statement `while` `(` expression `)` `;`
@@ -65,26 +74,19 @@ pub enum Stmt<A: Allocator> {
         keyword: Token,
         body: Box<Stmt<A>, A>,
         while_keyword: Token,
-        opening: Token,
-        test: Expr<A>,
-        closing: Token,
+        test: Box<Controlling<A>, A>,
         semicolon: Token,
     },
     /// `for` `(` start [expression] `;` [expression] `)` statement
     For {
         keyword: Token,
-        opening: Token,
-        start: Box<ForStart<A>, A>,
-        test: Option<Expr<A>>,
-        semicolon: Token,
-        step: Option<Expr<A>>,
-        closing: Token,
+        head: Box<ForHead<A>, A>,
         body: Box<Stmt<A>, A>,
     },
     /// `case` conditional expression `:` statement
     Case {
         keyword: Token,
-        value: Expr<A>,
+        value: Box<Expr<A>, A>,
         colon: Token,
         body: Box<Stmt<A>, A>,
     },
@@ -119,22 +121,44 @@ pub enum Stmt<A: Allocator> {
     /// `return` expression `;`
     ReturnValue {
         keyword: Token,
-        value: Expr<A>,
+        value: Box<Expr<A>, A>,
         semicolon: Token,
     },
 }
 
-/// What stands in a block (6.8.2).
+/// What is in a block (6.8.2).
 #[cycle(statements)]
-#[derive(Drop)]
 pub enum BlockItem<A: Allocator> {
     /// A declaration.
-    DeclarationItem(Decl<A>),
+    DeclarationItem(Box<Decl<A>, A>),
     /// A statement.
     StatementItem(Stmt<A>),
 }
 
-// By hand, since a derived drop is written out in every function that lets a tree go.
+// Drops are written by hand: a derived one is written out wherever a tree is let go, here and in the crates above.
+impl<A: Allocator> Drop for Controlling<A> {
+    fn drop(self) {
+        let Controlling {
+            opening: _opening,
+            expr: _expr,
+            closing: _closing,
+        } = self;
+    }
+}
+
+impl<A: Allocator> Drop for ForHead<A> {
+    fn drop(self) {
+        let ForHead {
+            opening: _opening,
+            start: _start,
+            test: _test,
+            semicolon: _semicolon,
+            step: _step,
+            closing: _closing,
+        } = self;
+    }
+}
+
 impl<A: Allocator> Drop for Stmt<A> {
     #[cycle(statements)]
     fn drop(self) {
@@ -151,51 +175,36 @@ impl<A: Allocator> Drop for Stmt<A> {
             } => {}
             Stmt::If {
                 keyword: _keyword,
-                opening: _opening,
                 test: _test,
-                closing: _closing,
                 then: _then,
             } => {}
             Stmt::IfElse {
                 keyword: _keyword,
-                opening: _opening,
                 test: _test,
-                closing: _closing,
                 then: _then,
                 else_keyword: _else_keyword,
                 otherwise: _otherwise,
             } => {}
             Stmt::Switch {
                 keyword: _keyword,
-                opening: _opening,
                 value: _value,
-                closing: _closing,
                 body: _body,
             } => {}
             Stmt::While {
                 keyword: _keyword,
-                opening: _opening,
                 test: _test,
-                closing: _closing,
                 body: _body,
             } => {}
             Stmt::Do {
                 keyword: _keyword,
                 body: _body,
                 while_keyword: _while_keyword,
-                opening: _opening,
                 test: _test,
-                closing: _closing,
                 semicolon: _semicolon,
             } => {}
             Stmt::For {
                 keyword: _keyword,
-                opening: _opening,
-                start: _start,
-                test: _test,
-                semicolon: _semicolon,
-                step: _step,
-                closing: _closing,
+                head: _head,
                 body: _body,
             } => {}
             Stmt::Case {
@@ -236,7 +245,43 @@ impl<A: Allocator> Drop for Stmt<A> {
     }
 }
 
+impl<A: Allocator> Drop for BlockItem<A> {
+    #[cycle(statements)]
+    fn drop(self) {
+        match self {
+            BlockItem::DeclarationItem(_declaration) => {}
+            BlockItem::StatementItem(_statement) => {}
+        }
+    }
+}
+
+impl<A: Allocator> Controlling<A> {
+    /// The expression and its parentheses in a box, as builders take it.
+    pub fn boxed(self, alloc: A) -> Result<Box<Controlling<A>, A>, OutOfMemory>
+        ensures { IfOk result (λ boxed. boxed.value ≡ self) }
+    {
+        Ok(Box::new(alloc, self)?)
+    }
+}
+
+impl<A: Allocator> ForHead<A> {
+    /// What `for` has in its parentheses in a box, as builders take it.
+    pub fn boxed(self, alloc: A) -> Result<Box<ForHead<A>, A>, OutOfMemory>
+        ensures { IfOk result (λ boxed. boxed.value ≡ self) }
+    {
+        Ok(Box::new(alloc, self)?)
+    }
+}
+
+#[tactic(auto, using(crate::proofs::StatementEquations::statement_views))]
 impl<A: Allocator> Stmt<A> {
+    /// The statement in a box, as builders take it.
+    pub fn boxed(self, alloc: A) -> Result<Box<Stmt<A>, A>, OutOfMemory>
+        ensures { IfOk result (λ boxed. boxed.value ≡ self) }
+    {
+        Ok(Box::new(alloc, self)?)
+    }
+
     /// `{` items `}`
     pub fn block(opening: Token, items: Vec<BlockItem<A>, A>, closing: Token) -> Stmt<A>
         ensures { statement_tree result ≡ plain.Block opening (item_trees items.items) closing }
@@ -256,10 +301,138 @@ impl<A: Allocator> Stmt<A> {
     }
 
     /// expression `;`
-    pub fn evaluates(expr: Expr<A>, semicolon: Token) -> Stmt<A>
+    pub fn expression(expr: Expr<A>, semicolon: Token) -> Stmt<A>
         ensures { statement_tree result ≡ plain.ExpressionStatement (expr_tree expr) semicolon }
     {
         Stmt::ExpressionStatement { expr, semicolon }
+    }
+
+    /// `if` `(` expression `)` statement
+    pub fn if_then(keyword: Token, test: Box<Controlling<A>, A>, then: Box<Stmt<A>, A>) -> Stmt<A>
+        ensures { statement_tree result ≡ plain.If keyword test.value.opening (expr_tree test.value.expr)
+            test.value.closing (statement_tree then.value) }
+    {
+        Stmt::If {
+            keyword,
+            test,
+            then,
+        }
+    }
+
+    /// `if` `(` expression `)` statement `else` statement
+    pub fn if_else(
+        keyword: Token,
+        test: Box<Controlling<A>, A>,
+        then: Box<Stmt<A>, A>,
+        else_keyword: Token,
+        otherwise: Box<Stmt<A>, A>,
+    ) -> Stmt<A>
+        ensures { statement_tree result ≡ plain.IfElse keyword test.value.opening (expr_tree test.value.expr)
+            test.value.closing (statement_tree then.value) else_keyword (statement_tree otherwise.value) }
+    {
+        Stmt::IfElse {
+            keyword,
+            test,
+            then,
+            else_keyword,
+            otherwise,
+        }
+    }
+
+    /// `switch` `(` expression `)` statement
+    pub fn switch(keyword: Token, value: Box<Controlling<A>, A>, body: Box<Stmt<A>, A>) -> Stmt<A>
+        ensures { statement_tree result ≡ plain.Switch keyword value.value.opening (expr_tree value.value.expr)
+            value.value.closing (statement_tree body.value) }
+    {
+        Stmt::Switch {
+            keyword,
+            value,
+            body,
+        }
+    }
+
+    /// `while` `(` expression `)` statement
+    pub fn while_loop(
+        keyword: Token,
+        test: Box<Controlling<A>, A>,
+        body: Box<Stmt<A>, A>,
+    ) -> Stmt<A>
+        ensures { statement_tree result ≡ plain.While keyword test.value.opening (expr_tree test.value.expr)
+            test.value.closing (statement_tree body.value) }
+    {
+        Stmt::While {
+            keyword,
+            test,
+            body,
+        }
+    }
+
+    /// `do` statement `while` `(` expression `)` `;`
+    pub fn do_while(
+        keyword: Token,
+        body: Box<Stmt<A>, A>,
+        while_keyword: Token,
+        test: Box<Controlling<A>, A>,
+        semicolon: Token,
+    ) -> Stmt<A>
+        ensures { statement_tree result ≡ plain.Do keyword (statement_tree body.value) while_keyword
+            test.value.opening (expr_tree test.value.expr) test.value.closing semicolon }
+    {
+        Stmt::Do {
+            keyword,
+            body,
+            while_keyword,
+            test,
+            semicolon,
+        }
+    }
+
+    /// `for` `(` start [expression] `;` [expression] `)` statement
+    pub fn for_loop(keyword: Token, head: Box<ForHead<A>, A>, body: Box<Stmt<A>, A>) -> Stmt<A>
+        ensures { statement_tree result ≡ plain.For keyword head.value.opening (for_start_tree head.value.start)
+            (expr_option head.value.test) head.value.semicolon (expr_option head.value.step) head.value.closing
+            (statement_tree body.value) }
+    {
+        Stmt::For {
+            keyword,
+            head,
+            body,
+        }
+    }
+
+    /// `case` conditional expression `:` statement
+    pub fn case(
+        keyword: Token,
+        value: Box<Expr<A>, A>,
+        colon: Token,
+        body: Box<Stmt<A>, A>,
+    ) -> Stmt<A>
+        ensures { statement_tree result ≡ plain.Case keyword (expr_tree value.value) colon (statement_tree body.value) }
+    {
+        Stmt::Case {
+            keyword,
+            value,
+            colon,
+            body,
+        }
+    }
+
+    /// `default` `:` statement
+    pub fn default(keyword: Token, colon: Token, body: Box<Stmt<A>, A>) -> Stmt<A>
+        ensures { statement_tree result ≡ plain.Default keyword colon (statement_tree body.value) }
+    {
+        Stmt::Default {
+            keyword,
+            colon,
+            body,
+        }
+    }
+
+    /// name `:` statement
+    pub fn label(name: Token, colon: Token, body: Box<Stmt<A>, A>) -> Stmt<A>
+        ensures { statement_tree result ≡ plain.Label name colon (statement_tree body.value) }
+    {
+        Stmt::Label { name, colon, body }
     }
 
     /// `goto` name `;`
@@ -274,7 +447,7 @@ impl<A: Allocator> Stmt<A> {
     }
 
     /// `break` `;` or `continue` `;`
-    pub fn leave(keyword: Token, semicolon: Token) -> Stmt<A>
+    pub fn jump(keyword: Token, semicolon: Token) -> Stmt<A>
         ensures { statement_tree result ≡ plain.Jump keyword semicolon }
     {
         Stmt::Jump { keyword, semicolon }
@@ -288,8 +461,8 @@ impl<A: Allocator> Stmt<A> {
     }
 
     /// `return` expression `;`
-    pub fn return_value(keyword: Token, value: Expr<A>, semicolon: Token) -> Stmt<A>
-        ensures { statement_tree result ≡ plain.ReturnValue keyword (expr_tree value) semicolon }
+    pub fn return_value(keyword: Token, value: Box<Expr<A>, A>, semicolon: Token) -> Stmt<A>
+        ensures { statement_tree result ≡ plain.ReturnValue keyword (expr_tree value.value) semicolon }
     {
         Stmt::ReturnValue {
             keyword,
@@ -299,214 +472,20 @@ impl<A: Allocator> Stmt<A> {
     }
 }
 
-impl<A: Allocator + Copy> Stmt<A> {
-    /// `if` `(` expression `)` statement
-    pub fn if_then(
-        alloc: A,
-        keyword: Token,
-        opening: Token,
-        test: Expr<A>,
-        closing: Token,
-        then: Stmt<A>,
-    ) -> Result<Stmt<A>, OutOfMemory>
-        ensures { IfOk result (λ tree. statement_tree tree
-            ≡ plain.If keyword opening (expr_tree test) closing (statement_tree then)) }
-    {
-        let then = Box::new(alloc, then)?;
-        Ok(Stmt::If {
-            keyword,
-            opening,
-            test,
-            closing,
-            then,
-        })
-    }
-
-    /// `if` `(` expression `)` statement `else` statement
-    pub fn if_else(
-        alloc: A,
-        keyword: Token,
-        opening: Token,
-        test: Expr<A>,
-        closing: Token,
-        then: Stmt<A>,
-        else_keyword: Token,
-        otherwise: Stmt<A>,
-    ) -> Result<Stmt<A>, OutOfMemory>
-        ensures { IfOk result (λ tree. statement_tree tree
-            ≡ plain.IfElse keyword opening (expr_tree test) closing (statement_tree then) else_keyword (statement_tree otherwise)) }
-    {
-        let then = Box::new(alloc, then)?;
-        let otherwise = Box::new(alloc, otherwise)?;
-        Ok(Stmt::IfElse {
-            keyword,
-            opening,
-            test,
-            closing,
-            then,
-            else_keyword,
-            otherwise,
-        })
-    }
-
-    /// `switch` `(` expression `)` statement
-    pub fn switch(
-        alloc: A,
-        keyword: Token,
-        opening: Token,
-        value: Expr<A>,
-        closing: Token,
-        body: Stmt<A>,
-    ) -> Result<Stmt<A>, OutOfMemory>
-        ensures { IfOk result (λ tree. statement_tree tree
-            ≡ plain.Switch keyword opening (expr_tree value) closing (statement_tree body)) }
-    {
-        let body = Box::new(alloc, body)?;
-        Ok(Stmt::Switch {
-            keyword,
-            opening,
-            value,
-            closing,
-            body,
-        })
-    }
-
-    /// `while` `(` expression `)` statement
-    pub fn while_loop(
-        alloc: A,
-        keyword: Token,
-        opening: Token,
-        test: Expr<A>,
-        closing: Token,
-        body: Stmt<A>,
-    ) -> Result<Stmt<A>, OutOfMemory>
-        ensures { IfOk result (λ tree. statement_tree tree
-            ≡ plain.While keyword opening (expr_tree test) closing (statement_tree body)) }
-    {
-        let body = Box::new(alloc, body)?;
-        Ok(Stmt::While {
-            keyword,
-            opening,
-            test,
-            closing,
-            body,
-        })
-    }
-
-    /// `do` statement `while` `(` expression `)` `;`
-    pub fn do_while(
-        alloc: A,
-        keyword: Token,
-        body: Stmt<A>,
-        while_keyword: Token,
-        opening: Token,
-        test: Expr<A>,
-        closing: Token,
-        semicolon: Token,
-    ) -> Result<Stmt<A>, OutOfMemory>
-        ensures { IfOk result (λ tree. statement_tree tree
-            ≡ plain.Do keyword (statement_tree body) while_keyword opening (expr_tree test) closing semicolon) }
-    {
-        let body = Box::new(alloc, body)?;
-        Ok(Stmt::Do {
-            keyword,
-            body,
-            while_keyword,
-            opening,
-            test,
-            closing,
-            semicolon,
-        })
-    }
-
-    /// `for` `(` start [expression] `;` [expression] `)` statement
-    pub fn for_loop(
-        alloc: A,
-        keyword: Token,
-        opening: Token,
-        start: ForStart<A>,
-        test: Option<Expr<A>>,
-        semicolon: Token,
-        step: Option<Expr<A>>,
-        closing: Token,
-        body: Stmt<A>,
-    ) -> Result<Stmt<A>, OutOfMemory>
-        ensures { IfOk result (λ tree. statement_tree tree
-            ≡ plain.For keyword opening (for_start_tree start) (expr_option test) semicolon (expr_option step) closing (statement_tree body)) }
-    {
-        let start = Box::new(alloc, start)?;
-        let body = Box::new(alloc, body)?;
-        Ok(Stmt::For {
-            keyword,
-            opening,
-            start,
-            test,
-            semicolon,
-            step,
-            closing,
-            body,
-        })
-    }
-
-    /// `case` conditional expression `:` statement
-    pub fn case(
-        alloc: A,
-        keyword: Token,
-        value: Expr<A>,
-        colon: Token,
-        body: Stmt<A>,
-    ) -> Result<Stmt<A>, OutOfMemory>
-        ensures { IfOk result (λ tree. statement_tree tree
-            ≡ plain.Case keyword (expr_tree value) colon (statement_tree body)) }
-    {
-        let body = Box::new(alloc, body)?;
-        Ok(Stmt::Case {
-            keyword,
-            value,
-            colon,
-            body,
-        })
-    }
-
-    /// `default` `:` statement
-    pub fn default(
-        alloc: A,
-        keyword: Token,
-        colon: Token,
-        body: Stmt<A>,
-    ) -> Result<Stmt<A>, OutOfMemory>
-        ensures { IfOk result (λ tree. statement_tree tree
-            ≡ plain.Default keyword colon (statement_tree body)) }
-    {
-        let body = Box::new(alloc, body)?;
-        Ok(Stmt::Default {
-            keyword,
-            colon,
-            body,
-        })
-    }
-
-    /// name `:` statement
-    pub fn label(alloc: A, name: Token, colon: Token, body: Stmt<A>) -> Result<Stmt<A>, OutOfMemory>
-        ensures { IfOk result (λ tree. statement_tree tree
-            ≡ plain.Label name colon (statement_tree body)) }
-    {
-        let body = Box::new(alloc, body)?;
-        Ok(Stmt::Label { name, colon, body })
-    }
-}
-
+#[tactic(auto, using(crate::proofs::StatementEquations::statement_views))]
 impl<A: Allocator> BlockItem<A> {
     /// A declaration.
-    pub fn declaring(declaration: Decl<A>) -> BlockItem<A>
-        ensures { item_before result ≡ plain.DeclarationItem (declaration_tree declaration) }
+    pub fn declaration(declaration: Box<Decl<A>, A>) -> BlockItem<A>
+        ensures { (rest : plain.BlockItems) → item_before result rest
+            ≡ plain.DeclarationItem (declaration_tree declaration.value) rest }
     {
         BlockItem::DeclarationItem(declaration)
     }
 
     /// A statement.
-    pub fn doing(statement: Stmt<A>) -> BlockItem<A>
-        ensures { item_before result ≡ plain.StatementItem (statement_tree statement) }
+    pub fn statement(statement: Stmt<A>) -> BlockItem<A>
+        ensures { (rest : plain.BlockItems) → item_before result rest
+            ≡ plain.StatementItem (statement_tree statement) rest }
     {
         BlockItem::StatementItem(statement)
     }
