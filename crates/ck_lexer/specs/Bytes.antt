@@ -1,15 +1,35 @@
 -- The classes of bytes that the lexer knows (C99 5.2.1, 6.4; docs/TOKENS.md, "Bytes").
-use Rattle.std.specs.Prelude.{ℕ, Bool, ◌||◌, ◌&&◌, not, ◌==◌, nat_le}
+use Rattle.std.specs.Prelude.{ℕ, Bool, false, ◌||◌, ◌&&◌, not, ◌==◌, nat_le, List, [], ◌∷◌, codes}
+use Prim.Native.String.{String}
+
+abbrev pub is_among : ℕ → List ℕ → Bool
+is_among b [] = false
+is_among b (c ∷ []) = b == c
+is_among b (c ∷ d ∷ rest) = b == c || is_among b (d ∷ rest)
+
+-- the byte is one of these characters
+infix 60 ◌∈◌
+abbrev pub ◌∈◌ : ℕ → String → Bool
+b ∈ characters = is_among b (codes characters)
+
+abbrev pub is_within : ℕ → List ℕ → Bool
+is_within b (first ∷ last ∷ []) = nat_le first b && nat_le b last
+is_within b _ = false
+
+-- the byte is one of those from the first to the last of these two characters
+infix 60 ◌∈range◌
+abbrev pub ◌∈range◌ : ℕ → String → Bool
+b ∈range ends = is_within b (codes ends)
 
 abbrev pub is_line_feed : ℕ → Bool
-is_line_feed b = b == 10
+is_line_feed b = b ∈ "\n"
 
 abbrev pub is_no_line_feed : ℕ → Bool
 is_no_line_feed b = not (is_line_feed b)
 
 -- a space or a tab
 abbrev pub is_blank : ℕ → Bool
-is_blank b = b == 32 || b == 9
+is_blank b = b ∈ " \t"
 
 abbrev pub is_no_blank : ℕ → Bool
 is_no_blank b = not (is_blank b)
@@ -19,17 +39,17 @@ abbrev pub is_separator : ℕ → Bool
 is_separator b = b == 32 || (nat_le 9 b && nat_le b 13)
 
 abbrev pub is_digit : ℕ → Bool
-is_digit b = nat_le 48 b && nat_le b 57
+is_digit b = b ∈range "09"
 
 abbrev pub is_octal_digit : ℕ → Bool
-is_octal_digit b = nat_le 48 b && nat_le b 55
+is_octal_digit b = b ∈range "07"
 
 abbrev pub is_hexadecimal_digit : ℕ → Bool
-is_hexadecimal_digit b = (nat_le 48 b && nat_le b 57) || (nat_le 97 b && nat_le b 102) || (nat_le 65 b && nat_le b 70)
+is_hexadecimal_digit b = b ∈range "09" || b ∈range "af" || b ∈range "AF"
 
 -- an ASCII letter or the underscore
 abbrev pub is_nondigit : ℕ → Bool
-is_nondigit b = (nat_le 97 b && nat_le b 122) || (nat_le 65 b && nat_le b 90) || b == 95
+is_nondigit b = b ∈range "az" || b ∈range "AZ" || b ∈ "_"
 
 -- a byte of an identifier behind its first
 abbrev pub is_word_byte : ℕ → Bool

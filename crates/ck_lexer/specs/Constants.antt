@@ -3,7 +3,7 @@ use Rattle.std.specs.Prelude.{ℕ, zero, suc, ◌+◌, ◌-◌, ◌*◌, ◌^◌
 use Rattle.std.specs.List.{list_any, fold, prefix_len}
 use Rattle.std.specs.Option.{is_some, unwrap_or}
 use Rattle.std.specs.Str.{bytes_eq}
-use Rattle.ck_lexer.specs.Bytes.{is_digit, is_octal_digit, is_hexadecimal_digit, backslash}
+use Rattle.ck_lexer.specs.Bytes.{◌∈◌, is_digit, is_octal_digit, is_hexadecimal_digit, backslash}
 use Rattle.ck_lexer.specs.declared.numbers.Base.{Base}
 use Rattle.ck_lexer.specs.declared.numbers.Base.TheVariants.{Decimal, Octal, Hexadecimal}
 
@@ -16,10 +16,10 @@ value_of base digits = fold (λ value b. value * base + digit_value b) 0 digits
 
 -- `0x` and `0X` are hexadecimal, another `0` in front is octal
 abbrev pub begins_hexadecimal : List ℕ → Bool
-begins_hexadecimal text = slice_index text 0 == 48 && (slice_index text 1 == 120 || slice_index text 1 == 88)
+begins_hexadecimal text = slice_index text 0 ∈ "0" && slice_index text 1 ∈ "xX"
 
 abbrev pub base_of : List ℕ → Base
-base_of text = if begins_hexadecimal text then Hexadecimal else (if slice_index text 0 == 48 then Octal else Decimal)
+base_of text = if begins_hexadecimal text then Hexadecimal else (if slice_index text 0 ∈ "0" then Octal else Decimal)
 
 abbrev pub is_digit_of : Base → ℕ → Bool
 is_digit_of Decimal b = is_digit b
@@ -74,13 +74,13 @@ is_integer_constant text = is_integer_of (base_of text) text
 
 -- a number that is meant as a floating constant (6.4.4.2): it has a point, or an exponent of its base
 abbrev pub is_decimal_exponent : ℕ → Bool
-is_decimal_exponent b = b == 101 || b == 69
+is_decimal_exponent b = b ∈ "eE"
 
 abbrev pub is_binary_exponent : ℕ → Bool
-is_binary_exponent b = b == 112 || b == 80
+is_binary_exponent b = b ∈ "pP"
 
 abbrev pub is_point : ℕ → Bool
-is_point b = b == 46
+is_point b = b ∈ "."
 
 unfoldable pub is_floating : List ℕ → Bool
 is_floating text =
@@ -111,7 +111,7 @@ abbrev pub escape_size : List ℕ → Option ℕ
 escape_size text =
     if is_simple_escape (slice_index text 0) then Some 1
     else (if is_octal_digit (slice_index text 0) then if_byte (value_of 8 (take (octal_size text) text)) (octal_size text)
-    else (if slice_index text 0 == 120 then hexadecimal_escape (drop 1 text)
+    else (if slice_index text 0 ∈ "x" then hexadecimal_escape (drop 1 text)
     else None))
 
 -- how many bytes the character at the front takes, where it is one
