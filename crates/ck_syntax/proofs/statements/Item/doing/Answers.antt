@@ -1,5 +1,5 @@
-use Rattle.ck_syntax.proofs.StatementEquations.{item_before-Doing}
-use Rattle.ck_syntax.proofs.statements.Item.doing.Goals as goal
+use Rattle.ck_syntax.proofs.StatementEquations.{item_before-StatementItem}
+use Rattle.ck_syntax.proofs.statements.BlockItem.doing.Goals as goal
 
 pub returns : goal.returns
-returns g c = item_before-Doing _
+returns g c = item_before-StatementItem _
