@@ -21,6 +21,7 @@ mod Sizes
 -- Tokens so far
 mod Kept
 -- Lines so far, and the places that they give
+mod WithinLine
 mod LinesKept
 mod LinesFound
 mod LineStarts

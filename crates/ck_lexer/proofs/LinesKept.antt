@@ -85,7 +85,7 @@ follows_start bytes lines on at numbered begun = record {
   found = λ name names none are. are;
 }
 
-follows_plain : (bytes : List ℕ) (lines more : List Line) (on next : Line) (at k : ℕ) → Follows bytes lines on at more next k → k < length bytes → is_line_feed (slice_index bytes k) ≡ false → Follows bytes lines on at more next (k + 1)
+pub follows_plain : (bytes : List ℕ) (lines more : List Line) (on next : Line) (at k : ℕ) → Follows bytes lines on at more next k → k < length bytes → is_line_feed (slice_index bytes k) ≡ false → Follows bytes lines on at more next (k + 1)
 follows_plain bytes lines more on next at k follows inside plain = record {
   numbered = follows.numbered;
   begun = omega (arith, follows.begun);

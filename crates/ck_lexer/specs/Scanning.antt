@@ -69,6 +69,10 @@ literal_step mark (b ∷ c ∷ text) =
     else if is_line_feed b then Broken
     else On 1
 
+-- a lexeme that begins with none of these bytes has no line feed, and is no marker
+abbrev pub may_end_line : ℕ → Bool
+may_end_line b = b ∈ "\n/#"
+
 -- what is left after the blanks that come first
 abbrev pub after_blanks : List ℕ → List ℕ
 after_blanks text = drop (prefix_len is_blank text) text

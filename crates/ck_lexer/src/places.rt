@@ -1,11 +1,12 @@
 //! Names, lines and columns of a file's bytes (docs/TOKENS.md, "Places").
-ghost use Rattle.std.specs.Prelude.{◌≡◌, ◌≤◌, ◌++◌, ◌∷◌, ℕ, [], List, length, slice_index_or, IfOk, OnOk, MatchOption};
+ghost use Rattle.std.specs.Prelude.{◌≡◌, ◌≤◌, ◌<◌, ◌++◌, ◌∷◌, ℕ, [], List, length, slice_index_or, IfOk, OnOk, MatchOption};
 ghost use Rattle.std.specs.List.Sorted.{IsNonDecreasingBy};
 ghost use Rattle.ck_lexer.specs.Bytes.{most_bytes};
 ghost use Rattle.ck_lexer.specs.Cuts.{IsLexeme};
 ghost use Rattle.ck_lexer.specs.Mapping.{GoesOn, IsAtOrAfterFeed, IsLastBefore, IsMapped, IsMarked, IsNumbered, IsUnmarked};
 ghost use Rattle.ck_lexer.specs.PlaceMaps.{HasStart, IsPlaceMapOf, names_of, place_of, start_of};
 ghost use Rattle.ck_lexer.specs.Places.{IsPlace};
+ghost use Rattle.ck_lexer.specs.Scanning as scan;
 ghost use Rattle.ck_lexer.specs.declared.lexemes.Lexeme.{Lexeme};
 
 use crate::lexemes::{is_clear, lexeme_at};
@@ -123,10 +124,8 @@ pub(crate) fn empty_map(alloc: Global, name: &str) -> Result<PlaceMap, OutOfMemo
     Ok(PlaceMap { names, lines })
 }
 
-/// Passes a lexeme that takes the bytes from `at` to `end`, and the line feed after it where it is a
-/// marker: adds the lines that begin there, and the marker's name. `on` is the line of the lexeme's
-/// first byte.
-pub(crate) fn pass(
+/// Passes a lexeme that may hold line feeds or be a marker, as `pass` does.
+fn pass_line_ends(
     alloc: Global,
     map: &mut PlaceMap,
     on: Line,
@@ -158,6 +157,41 @@ pub(crate) fn pass(
             let on = push_lines(&mut map.lines, on, bytes, at, end)?;
             Ok(Passed { on, at: end })
         }
+    }
+}
+
+/// Whether a lexeme that begins with this byte may hold a line feed or be a marker.
+fn may_end_line(byte: u8) -> bool
+    ensures { result ≡ scan.may_end_line byte }
+{
+    matches!(byte, b'\n' | b'/' | b'#')
+}
+
+/// Passes a lexeme that takes the bytes from `at` to `end`, and the line feed after it where it is a
+/// marker: adds the lines that begin there, and the marker's name. `on` is the line of the lexeme's
+/// first byte.
+#[inline(always)]
+pub(crate) fn pass(
+    alloc: Global,
+    map: &mut PlaceMap,
+    on: Line,
+    bytes: &[u8],
+    at: usize,
+    end: usize,
+) -> Result<Passed, OutOfMemory>
+    requires small { length bytes.now ≤ most_bytes }
+    requires rises { at < end }
+    requires within { end ≤ length bytes.now }
+    requires begun { on.start ≤ at }
+    requires numbered { IsNumbered on }
+    ensures rises { IfOk result (λ next. end ≤ next.at) }
+    ensures lines { IfOk result (λ next. (name : List ℕ) (lexeme : Lexeme) → IsLexeme bytes.now at end lexeme → IsMapped name bytes.now map.old on at → IsMapped name bytes.now map.new next.on next.at) }
+    ensures feed { IfOk result (λ next. (lexeme : Lexeme) → IsLexeme bytes.now at end lexeme → IsAtOrAfterFeed bytes.now end next.at) }
+{
+    if may_end_line(bytes[at]) {
+        pass_line_ends(alloc, map, on, bytes, at, end)
+    } else {
+        Ok(Passed { on, at: end })
     }
 }
 
