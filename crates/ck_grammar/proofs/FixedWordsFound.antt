@@ -36,7 +36,6 @@ found_by text None e = missed text (ap (if_spelled text) e)
 found_by text (Some found) e =
     found_if text found (bytes_eq (spelling found) text) refl (ap (if_spelled text) e)
 
-
 same_fixed : (text other : List ℕ) → Fixed text ≡ Fixed other → text ≡ other
 same_fixed text other e = cc
 
