@@ -1,24 +1,8 @@
 -- How worked texts are stated: a text is written with one blank between two tokens, and what the reader reads of it is
 -- shown with each expression of operators in braces and each statement between `begin` and `end`. So
 -- `a + { b * c }` in a shown expression tells which operands `+` and `*` have.
-use Rattle.std.specs.Prelude.{
-  ◌≡◌,
-  ℕ,
-  ◌+◌,
-  suc,
-  Bool,
-  true,
-  false,
-  ◌||◌,
-  List,
-  [],
-  ◌∷◌,
-  length,
-  Option,
-  Some,
-  None,
-  codes,
-}
+use Rattle.std.specs.Prelude.{◌≡◌, ℕ, ◌+◌, suc, Bool, true, false, ◌||◌, List, [], ◌∷◌, length, Option, Some, None}
+use Rattle.std.specs.Prelude.{codes}
 use Rattle.std.specs.Prelude.{if◌then◌else◌}
 use Rattle.ck_base.specs.Characters.{◌∈◌, ◌∈range◌}
 use Rattle.ck_base.specs.TokenText.{text_of}
@@ -31,17 +15,8 @@ use Rattle.ck_grammar.specs.Reading.{expr_at}
 use Rattle.ck_grammar.specs.ReadingStatements.{statement_at, file_at}
 use Rattle.ck_grammar.specs.Spelling.{most}
 use Rattle.ck_grammar.specs.Statements.{Statement, BlockItems, ForStart, Declaration, External, StartEmpty, StartExpr}
-use Rattle.ck_grammar.specs.Statements.{
-  StartDeclaration,
-  Block,
-  Empty,
-  ExpressionStatement,
-  If,
-  IfElse,
-  Switch,
-  While,
-  Do,
-}
+use Rattle.ck_grammar.specs.Statements.{StartDeclaration, Block, Empty, ExpressionStatement, If, IfElse, Switch, While}
+use Rattle.ck_grammar.specs.Statements.{Do}
 use Rattle.ck_grammar.specs.Statements.{For, Case, Default, Label, Goto, Jump, Return, ReturnValue, NoBlockItems}
 use Rattle.ck_grammar.specs.Statements.{DeclarationItem, StatementItem, FileDeclaration, FunctionDefinition}
 use Rattle.ck_grammar.specs.StatementsWritten as written

@@ -6,7 +6,7 @@ use Rattle.std.proofs.lemmas.Bool.{false≢true}
 use Rattle.std.proofs.lemmas.Slice.Eq.{bytes_eq-Decides}
 use Rattle.ck_base.specs.declared.tokens.Token.{Token}
 use Rattle.ck_base.specs.declared.tokens.TokenKind.TheVariants as kinds
-use Rattle.ck_grammar.proofs.FilesRead.{one_tree_file}
+use Rattle.ck_grammar.proofs.FilesComplete.{one_tree_file}
 use Rattle.ck_grammar.proofs.TypeStops.{and_left, and_right}
 use Rattle.ck_grammar.proofs.Worked.{at}
 use Rattle.ck_grammar.specs.Fitting.{Fits}
