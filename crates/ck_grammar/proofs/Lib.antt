@@ -43,7 +43,7 @@ mod TypeStops
 mod Levels
 mod Lengths
 mod StatementsLengths
-mod Appended
+pub mod Appended
 -- Worked texts
 pub mod Grouping
 mod WorkedOperators
