@@ -1,7 +1,7 @@
 -- No tokens have two longest expressions at the front.
 use Rattle.std.proofs.Common.{◌≡◌, List, [], ◌∷◌, ◌++◌, length, refl, sym, ap, ◌∙◌, arith}
 use Rattle.ck_base.specs.declared.tokens.Token.{Token}
-use Rattle.ck_grammar.proofs.AllRead.{one_tree}
+use Rattle.ck_grammar.proofs.ExpressionsComplete.{one_tree}
 use Rattle.ck_grammar.proofs.Appended.{written_appended}
 use Rattle.ck_grammar.proofs.Lengths.{longer_append}
 use Rattle.ck_grammar.specs.Answers.{OneLongest}

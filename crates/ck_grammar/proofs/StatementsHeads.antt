@@ -4,7 +4,7 @@ use Rattle.std.specs.Prelude.{codes}
 use Rattle.std.proofs.lemmas.Bool.{false≢true}
 use Rattle.ck_base.specs.declared.tokens.Token.{Token}
 use Rattle.ck_grammar.proofs.Heads.{begins, no_specifiers_begin}
-use Rattle.ck_grammar.proofs.DeclarationsRead.{declaration_begins, and_false}
+use Rattle.ck_grammar.proofs.DeclarationsComplete.{declaration_begins, and_false}
 use Rattle.ck_grammar.proofs.Texts.{other_word, operand_comes_not, specifiers_come_not}
 use Rattle.ck_grammar.specs.Phrases.{NamePhrase, JumpPhrase, phrase}
 use Rattle.ck_grammar.specs.Readers.{Reader, is_at}

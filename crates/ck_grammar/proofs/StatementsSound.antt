@@ -4,12 +4,12 @@ use Rattle.std.proofs.Common.{Some, None, refl, sym, ap, ◌∙◌, arith}
 use Rattle.std.specs.Prelude.{codes}
 use Rattle.std.proofs.lemmas.Bool.{false≢true}
 use Rattle.ck_base.specs.declared.tokens.Token.{Token}
-use Rattle.ck_grammar.proofs.AllSound.{all_sound}
+use Rattle.ck_grammar.proofs.ReadersSound.{all_sound}
 use Rattle.ck_grammar.proofs.ExpressionsSound.{SoundExprs, GoodExpr, IsExpr}
 use Rattle.ck_grammar.proofs.InitialisersSound.{GoodDeclaration, IsDeclaration, declares_sound, bare_sound}
 use Rattle.ck_grammar.proofs.InitialisersSound.{declaration_sound}
-use Rattle.ck_grammar.proofs.OnRead.{OnRead, IsSpelled, SoundReader, SoundLoop, on_then, by_if, on_else, on_mark}
-use Rattle.ck_grammar.proofs.OnRead.{on_identifier, on_guard}
+use Rattle.ck_grammar.proofs.ReaderAnswers.{OnRead, IsSpelled, SoundReader, SoundLoop, on_then, by_if, on_else, on_mark}
+use Rattle.ck_grammar.proofs.ReaderAnswers.{on_identifier, on_guard}
 use Rattle.ck_grammar.proofs.TypesSound.{IsSpecifiers, IsDeclarator, not_true}
 use Rattle.ck_grammar.proofs.TypeStops.{and_left, and_right}
 use Rattle.ck_grammar.proofs.WordsTold.{PhraseTells, phrase_tells}

@@ -5,8 +5,8 @@ use Rattle.std.specs.Prelude.{codes}
 use Rattle.std.proofs.lemmas.Bool.{false≢true}
 use Rattle.ck_base.specs.declared.tokens.Token.{Token}
 use Rattle.ck_grammar.proofs.ExpressionsSound.{GoodExpr, IsExpr}
-use Rattle.ck_grammar.proofs.OnRead.{OnRead, OnPair, IsSpelled, SoundReader, SoundLoop, on_then, by_if, on_else}
-use Rattle.ck_grammar.proofs.OnRead.{on_mark, is_fixed, on_guard}
+use Rattle.ck_grammar.proofs.ReaderAnswers.{OnRead, OnPair, IsSpelled, SoundReader, SoundLoop, on_then, by_if, on_else}
+use Rattle.ck_grammar.proofs.ReaderAnswers.{on_mark, is_fixed, on_guard}
 use Rattle.ck_grammar.proofs.TypeStops.{and_left, and_right}
 use Rattle.ck_grammar.proofs.WordsTold.{SortTells, sort_tells}
 use Rattle.ck_grammar.specs.Fitting.{FitsEach, FitsMembers, FitsDeclarators, FitsDeclarator, FitsDims, FitsParams}

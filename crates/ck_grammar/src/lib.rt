@@ -8,9 +8,12 @@
 //! It must not know: memory, types, scopes, and how tokens are cut.
 #![tactic(auto)]
 
+mod classes;
 mod laws;
+pub mod level;
 mod words;
 
+pub use classes::{Follow, Lead, Phrase, Sort};
 pub use laws::{
     one_declaration, one_expression, one_external, one_file, one_longest, one_statement,
     reads_expressions, reads_files,

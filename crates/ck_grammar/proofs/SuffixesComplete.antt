@@ -6,7 +6,7 @@ use Rattle.ck_base.specs.declared.tokens.Token.{Token}
 use Rattle.ck_grammar.proofs.Heads.{begins}
 use Rattle.ck_grammar.proofs.Lengths.{longer, longer_operands}
 use Rattle.ck_grammar.proofs.Levels.{loosest}
-use Rattle.ck_grammar.proofs.OperandsRead.{operands_read, operands_stop}
+use Rattle.ck_grammar.proofs.OperandsComplete.{operands_read, operands_stop}
 use Rattle.ck_grammar.proofs.Stops.{StopsAt, Exact, at_round, at_square, looseness}
 use Rattle.ck_grammar.specs.Fitting.{Fits, FitsSuffixes, AreStrings, is_primary}
 use Rattle.ck_grammar.specs.Nesting.{nesting, suffixes_nesting}

@@ -2,9 +2,9 @@
 use Rattle.std.proofs.Common.{◌≡◌, ℕ, zero, suc, ◌≤◌, true, List, [], ◌∷◌, length, Option, Some, None, refl, ◌∙◌, arith}
 use Rattle.std.specs.Prelude.{codes}
 use Rattle.ck_base.specs.declared.tokens.Token.{Token}
-use Rattle.ck_grammar.proofs.DeclaratorsRead.{ReadsParams, ReadsDeclarators}
+use Rattle.ck_grammar.proofs.DeclaratorsComplete.{ReadsParams, ReadsDeclarators}
 use Rattle.ck_grammar.proofs.Lengths.{longer, longer_specifiers, longer_declarator, longer_declarators}
-use Rattle.ck_grammar.proofs.SpecifiersRead.{ReadsMembers, ReadsEnumerators, ReadsSpecifiers}
+use Rattle.ck_grammar.proofs.SpecifiersComplete.{ReadsMembers, ReadsEnumerators, ReadsSpecifiers}
 use Rattle.ck_grammar.proofs.Stops.{StopsAt, ReadsAt, at_comma, at_curly}
 use Rattle.ck_grammar.proofs.TypeStops.{StopsBoth, stops_declarator, declarator_ends, specifiers_begin}
 use Rattle.ck_grammar.specs.Fitting.{FitsDeclarators, FitsMembers, FitsEnumerators, FitsParams, FitsMore, IsComma}

@@ -4,17 +4,17 @@ use Rattle.std.proofs.Common.{◌≡◌, ℕ, zero, suc, ◌≤◌, Bool, true, 
 use Rattle.std.proofs.Common.{nat_eq, nat_le, refl, ap, arith, inl, inr}
 use Rattle.std.proofs.lemmas.Bool.{false≢true, le-leb, cases_lt}
 use Rattle.ck_base.specs.declared.tokens.Token.{Token}
-use Rattle.ck_grammar.proofs.CastsRead.{ReadsTypes, OpensTypes, prefix_by}
+use Rattle.ck_grammar.proofs.CastsComplete.{ReadsTypes, OpensTypes, prefix_by}
 use Rattle.ck_grammar.proofs.ExpressionsSound.{SoundExprs, SoundTypes, IsExpr, neighbours_sound, operand_loop_sound}
 use Rattle.ck_grammar.proofs.ExpressionsSound.{suffix_loop_sound, level_sound, on_operator}
 use Rattle.ck_grammar.proofs.Heads.{begins, no_cast}
 use Rattle.ck_grammar.proofs.Lengths.{longer, longer_append, longer_operands, longer_suffixes}
 use Rattle.ck_grammar.proofs.Levels.{loosest, no_choice, no_assignment, chain_not_tight, unary_is_tight, taken_is_tight}
-use Rattle.ck_grammar.proofs.LevelsRead.{level_read}
-use Rattle.ck_grammar.proofs.OnRead.{OnRead, on_then, on_mark, by_if, on_guard}
-use Rattle.ck_grammar.proofs.OperandsRead.{operands_stop, operands_read}
+use Rattle.ck_grammar.proofs.LevelsComplete.{level_read}
+use Rattle.ck_grammar.proofs.ReaderAnswers.{OnRead, on_then, on_mark, by_if, on_guard}
+use Rattle.ck_grammar.proofs.OperandsComplete.{operands_stop, operands_read}
 use Rattle.ck_grammar.proofs.Stops.{StopsAt, Exact, same, at_round, at_square, at_colon, at_question, at_operator}
-use Rattle.ck_grammar.proofs.SuffixesRead.{StopsStrings, no_string, primary_read}
+use Rattle.ck_grammar.proofs.SuffixesComplete.{StopsStrings, no_string, primary_read}
 use Rattle.ck_grammar.specs.Fitting.{Fits, FitsOperands, FitsSuffixes, AreStrings, chain_level, precedence, is_unary}
 use Rattle.ck_grammar.specs.Fitting.{takes, is_tight, has_suffix}
 use Rattle.ck_grammar.specs.Nesting.{nesting, operands_nesting, suffixes_nesting}

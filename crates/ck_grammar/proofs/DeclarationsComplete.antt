@@ -5,8 +5,8 @@ use Rattle.std.specs.Prelude.{codes}
 use Rattle.std.specs.Str.{bytes_eq}
 use Rattle.std.proofs.lemmas.Bool.{false≢true}
 use Rattle.ck_base.specs.declared.tokens.Token.{Token}
-use Rattle.ck_grammar.proofs.AllRead.{all_read}
-use Rattle.ck_grammar.proofs.InitsRead.{init_read}
+use Rattle.ck_grammar.proofs.ExpressionsComplete.{all_read}
+use Rattle.ck_grammar.proofs.InitialisersComplete.{init_read}
 use Rattle.ck_grammar.proofs.Labels.{specifiers_no_label}
 use Rattle.ck_grammar.proofs.Lengths.{longer_declarator}
 use Rattle.ck_grammar.proofs.StatementsLengths.{longer_init}

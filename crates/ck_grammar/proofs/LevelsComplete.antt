@@ -4,9 +4,9 @@ use Rattle.std.proofs.Common.{nat_le, refl, ap, arith, inl, inr}
 use Rattle.std.proofs.lemmas.Bool.{le-leb, cases_lt}
 use Rattle.std.proofs.lemmas.Bool.Decides.{nat_tests}
 use Rattle.ck_base.specs.declared.tokens.Token.{Token}
-use Rattle.ck_grammar.proofs.CastsRead.{ReadsTypes, OpensTypes, cast_read}
+use Rattle.ck_grammar.proofs.CastsComplete.{ReadsTypes, OpensTypes, cast_read}
 use Rattle.ck_grammar.proofs.Levels.{loosest, no_choice, no_assignment, chain_has_operand, unary_is_tight}
-use Rattle.ck_grammar.proofs.OperandsRead.{operands_read, operands_stop, no_more_operands}
+use Rattle.ck_grammar.proofs.OperandsComplete.{operands_read, operands_stop, no_more_operands}
 use Rattle.ck_grammar.proofs.Stops.{StopsAt, Exact, stops_below, same, no_operator, at_colon, at_question, at_operator}
 use Rattle.ck_grammar.specs.Fitting.{Fits, FitsOperands, chain_level, precedence}
 use Rattle.ck_grammar.specs.Nesting.{nesting}

@@ -1,13 +1,13 @@
 -- The longest expression at the front of tokens is read: by how deep it nests.
 use Rattle.std.proofs.Common.{◌≡◌, ℕ, zero, suc, ◌≤◌, true, List, length, Some, None, refl, subst, arith}
 use Rattle.ck_base.specs.declared.tokens.Token.{Token}
-use Rattle.ck_grammar.proofs.AllRead.{all_read, type_name_read, nests_once}
-use Rattle.ck_grammar.proofs.AllSound.{all_sound, type_name_sound}
-use Rattle.ck_grammar.proofs.CastsRead.{ReadsTypes}
+use Rattle.ck_grammar.proofs.ExpressionsComplete.{all_read, type_name_read, nests_once}
+use Rattle.ck_grammar.proofs.ReadersSound.{all_sound, type_name_sound}
+use Rattle.ck_grammar.proofs.CastsComplete.{ReadsTypes}
 use Rattle.ck_grammar.proofs.ExpressionsSound.{SoundTypes, IsExpr, IsUnary, unary_sound}
 use Rattle.ck_grammar.proofs.Levels.{loosest}
-use Rattle.ck_grammar.proofs.Longest.{Reaches, ReachesExprs, UnaryReads, level_reach}
-use Rattle.ck_grammar.proofs.OnRead.{OnRead}
+use Rattle.ck_grammar.proofs.LongestReached.{Reaches, ReachesExprs, UnaryReads, level_reach}
+use Rattle.ck_grammar.proofs.ReaderAnswers.{OnRead}
 use Rattle.ck_grammar.proofs.TypeStops.{type_opens}
 use Rattle.ck_grammar.specs.Answers.{Begins, AnswersLongest, ReadsExpressions}
 use Rattle.ck_grammar.specs.Fitting.{Fits, is_unary, NoName}

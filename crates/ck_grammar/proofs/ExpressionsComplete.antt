@@ -3,12 +3,12 @@ use Rattle.std.proofs.Common.{◌≡◌, ℕ, zero, suc, ◌≤◌, List, [], �
 use Rattle.std.proofs.Common.{arith}
 use Rattle.std.specs.Prelude.{codes}
 use Rattle.ck_base.specs.declared.tokens.Token.{Token}
-use Rattle.ck_grammar.proofs.BodiesRead.{members_read, enumerators_read, params_read}
-use Rattle.ck_grammar.proofs.CastsRead.{ReadsTypes}
-use Rattle.ck_grammar.proofs.DeclaratorsRead.{ReadsDeclarators, declarator_read, nothing_read}
+use Rattle.ck_grammar.proofs.BodiesComplete.{members_read, enumerators_read, params_read}
+use Rattle.ck_grammar.proofs.CastsComplete.{ReadsTypes}
+use Rattle.ck_grammar.proofs.DeclaratorsComplete.{ReadsDeclarators, declarator_read, nothing_read}
 use Rattle.ck_grammar.proofs.Levels.{loosest}
-use Rattle.ck_grammar.proofs.LevelsRead.{level_read}
-use Rattle.ck_grammar.proofs.SpecifiersRead.{ReadsSpecifiers, specifiers_read, none_at_curly}
+use Rattle.ck_grammar.proofs.LevelsComplete.{level_read}
+use Rattle.ck_grammar.proofs.SpecifiersComplete.{ReadsSpecifiers, specifiers_read, none_at_curly}
 use Rattle.ck_grammar.proofs.Stops.{Exact}
 use Rattle.ck_grammar.proofs.TypeStops.{declarator_ends, type_opens}
 use Rattle.ck_grammar.specs.Fitting.{Fits, Naming, NoName, MaybeName, MemberName}

@@ -6,7 +6,7 @@ use Rattle.ck_base.specs.declared.tokens.Token.{Token}
 use Rattle.ck_grammar.proofs.Heads.{no_cast}
 use Rattle.ck_grammar.proofs.Levels.{chain_not_tight, taken_is_tight}
 use Rattle.ck_grammar.proofs.Stops.{StopsAt, Exact}
-use Rattle.ck_grammar.proofs.SuffixesRead.{primary_read, suffixed_read, nothing_behind, stops_strings}
+use Rattle.ck_grammar.proofs.SuffixesComplete.{primary_read, suffixed_read, nothing_behind, stops_strings}
 use Rattle.ck_grammar.specs.Fitting.{Fits, FitsEach, FitsDeclarator, NoName, is_unary, takes, is_tight, precedence}
 use Rattle.ck_grammar.specs.Nesting.{nesting, specifiers_nesting, declarator_nesting}
 use Rattle.ck_grammar.specs.Readers.{Reader}

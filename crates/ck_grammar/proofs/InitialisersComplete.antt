@@ -5,7 +5,7 @@ use Rattle.std.specs.Prelude.{codes}
 use Rattle.std.specs.Str.{bytes_eq}
 use Rattle.std.proofs.lemmas.Bool.{false≢true}
 use Rattle.ck_base.specs.declared.tokens.Token.{Token}
-use Rattle.ck_grammar.proofs.AllRead.{all_read, nests_once}
+use Rattle.ck_grammar.proofs.ExpressionsComplete.{all_read, nests_once}
 use Rattle.ck_grammar.proofs.Heads.{begins}
 use Rattle.ck_grammar.proofs.Lengths.{longer}
 use Rattle.ck_grammar.proofs.StatementsLengths.{longer_designation, longer_init, longer_inits}

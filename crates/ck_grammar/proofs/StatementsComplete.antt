@@ -4,8 +4,8 @@ use Rattle.std.proofs.Common.{refl, sym, ◌∙◌, arith}
 use Rattle.std.specs.Prelude.{codes}
 use Rattle.std.proofs.lemmas.Bool.{false≢true}
 use Rattle.ck_base.specs.declared.tokens.Token.{Token}
-use Rattle.ck_grammar.proofs.AllRead.{all_read}
-use Rattle.ck_grammar.proofs.DeclarationsRead.{declaration_read, declaration_begins, declaration_no_label}
+use Rattle.ck_grammar.proofs.ExpressionsComplete.{all_read}
+use Rattle.ck_grammar.proofs.DeclarationsComplete.{declaration_read, declaration_begins, declaration_no_label}
 use Rattle.ck_grammar.proofs.Heads.{begins}
 use Rattle.ck_grammar.proofs.Labels.{expression_no_label}
 use Rattle.ck_grammar.proofs.Levels.{loosest}

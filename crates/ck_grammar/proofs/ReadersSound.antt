@@ -3,7 +3,7 @@ use Rattle.std.proofs.Common.{◌≡◌, ℕ, zero, suc, ◌≤◌, Bool, true, 
 use Rattle.std.proofs.Common.{◌∙◌, arith}
 use Rattle.ck_base.specs.declared.tokens.Token.{Token}
 use Rattle.ck_grammar.proofs.ExpressionsSound.{SoundExprs, SoundTypes, IsExpr, IsType, level_sound}
-use Rattle.ck_grammar.proofs.OnRead.{OnRead, SoundReader, on_then}
+use Rattle.ck_grammar.proofs.ReaderAnswers.{OnRead, SoundReader, on_then}
 use Rattle.ck_grammar.proofs.TypesSound.{GoodSpecifiers, GoodDeclarator, IsSpecifiers, IsDeclarator, specifiers_sound}
 use Rattle.ck_grammar.proofs.TypesSound.{members_sound, enumerators_sound, params_sound, declarator_sound}
 use Rattle.ck_grammar.specs.Fitting.{Naming, MemberName, MaybeName, NoName, may_be_abstract}

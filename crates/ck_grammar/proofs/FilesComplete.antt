@@ -2,11 +2,11 @@
 use Rattle.std.proofs.Common.{◌≡◌, ℕ, ◌-◌, zero, suc, ◌≤◌, true, not, ◌&&◌, List, [], ◌∷◌, length, Option, Some, None}
 use Rattle.std.proofs.Common.{refl, sym, ap, ◌∙◌, arith}
 use Rattle.ck_base.specs.declared.tokens.Token.{Token}
-use Rattle.ck_grammar.proofs.AllRead.{all_read}
-use Rattle.ck_grammar.proofs.DeclarationsRead.{new_name_ends, new_name_comes_not, declares_read, declared_ends}
-use Rattle.ck_grammar.proofs.DeclarationsRead.{declared_no_body, declaration_read}
+use Rattle.ck_grammar.proofs.ExpressionsComplete.{all_read}
+use Rattle.ck_grammar.proofs.DeclarationsComplete.{new_name_ends, new_name_comes_not, declares_read, declared_ends}
+use Rattle.ck_grammar.proofs.DeclarationsComplete.{declared_no_body, declaration_read}
 use Rattle.ck_grammar.proofs.StatementsLengths.{longer_external, not_empty}
-use Rattle.ck_grammar.proofs.StatementsRead.{statement_read, body_read}
+use Rattle.ck_grammar.proofs.StatementsComplete.{statement_read, body_read}
 use Rattle.ck_grammar.specs.Fitting.{NewName}
 use Rattle.ck_grammar.specs.Reading.{specifiers_at, declarator_at}
 use Rattle.ck_grammar.specs.ReadingStatements.{declaration_at, statement_at, is_function, body_at, external_at}
