@@ -73,7 +73,7 @@ declaration_begins bytes typedefs place (Bare s semicolon) more h = specifiers_b
 declaration_begins bytes typedefs place (Declares s d rest semicolon) more h =
     specifiers_begin (word_of bytes typedefs) place s (declarator d (declared rest (semicolon ∷ more))) h.0.0 h.0.1
 
--- what stands behind a declarator or an initialiser ends it, whatever the typedef names
+-- what is after a declarator or an initialiser ends it, whatever the typedef names
 more_ends : (bytes : List ℕ) (a b : List (List ℕ)) (types : Bool) (m : MoreDeclared) (semicolon : Token)
     (more : List Token)
     → FitsMoreDeclared bytes a types m → word_of bytes b semicolon ≡ Fixed (codes ";")
@@ -189,7 +189,7 @@ declared_read bytes n types typedefs (Initialised eq i rest) semicolon more h ne
     (omega (arith, nests)) close (omega arith) in
     rw (test, h.1, first, all) refl
 
--- what stands behind the first declarator of a declaration is read
+-- what is after the first declarator of a declaration is read
 pub declares_read : (bytes : List ℕ) (typedefs : List (List ℕ)) (n : ℕ) (s : Specifiers) (d : Declarator) (x : Declared)
     (semicolon : Token) (more : List Token)
     → FitsDeclared bytes (names_after (is_typedef (word_of bytes typedefs) s) bytes d typedefs)
@@ -205,7 +205,7 @@ declares_read bytes typedefs n s d x semicolon more h nests close =
     (fixed_stays bytes typedefs (names_after types bytes d typedefs) semicolon (codes ";") close) in
     rw (read, close) refl
 
--- what stands behind the first declarator ends it
+-- what is after the first declarator ends it
 pub declared_ends : (bytes : List ℕ) (a b : List (List ℕ)) (types : Bool) (x : Declared) (semicolon : Token)
     (more : List Token)
     → FitsDeclared bytes a types x → word_of bytes b semicolon ≡ Fixed (codes ";")
@@ -224,7 +224,7 @@ declared_no_body bytes a b types (Plainly rest) semicolon more h close =
 declared_no_body bytes a b types (Initialised eq i rest) semicolon more h close =
     rw (fixed_stays bytes a b eq (codes "=") h.1) refl
 
--- a declaration is read, whatever stands behind it
+-- a declaration is read, whatever is after it
 pub declaration_read : (bytes : List ℕ) (typedefs : List (List ℕ)) (n : ℕ) (place : Place) (x : Declaration)
     (more : List Token)
     → FitsDeclaration bytes typedefs place x → declaration_nesting x ≤ n → declaration_at bytes typedefs n place

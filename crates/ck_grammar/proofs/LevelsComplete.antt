@@ -34,7 +34,7 @@ by_test false x y z first second = second refl
 equal : (a b : ℕ) → nat_eq a b ≡ true → a ≡ b
 equal a b h = grind (arith, nat_tests)
 
--- nothing of the level is behind it
+-- nothing of the level is after it
 nothing_more : (w : Token → Word) (p : ℕ → Reader Expr) (n j : ℕ) (e : Expr) (ts : List Token) → StopsAt w (suc j) ts
     → more w p n j e ts ≡ (e, ts)
 nothing_more w p n j e ts stop = by_test (nat_le (nesting e) n) _ _ _

@@ -1,4 +1,4 @@
--- Where an expression is written, whatever stands behind it, the readers read one that leaves no more tokens than it
+-- Where an expression is written, whatever is after it, the readers read one that leaves no more tokens than it
 -- does.
 use Rattle.std.proofs.Common.{◌≡◌, ℕ, zero, suc, ◌≤◌, Bool, true, false, cond, List, [], ◌∷◌, ◌++◌, length, Some, None}
 use Rattle.std.proofs.Common.{nat_eq, nat_le, refl, ap, arith, inl, inr}
@@ -331,7 +331,7 @@ more_keeps w p n j e r le sound =
     (operand_loop_keeps w p n j (length r) r le sound))))
     (λ _. omega arith)
 
--- a level at which the tree itself stands
+-- a level at which the tree itself is
 same_level_reach : (w : Token → Word) (p : ℕ → Reader Expr) (ty : Reader (Specifiers × Declarator)) (n j : ℕ) (e : Expr)
     (ts : List Token)
     → Exact w n p → SoundExprs w n p → ReachesExprs w n p → ReadsTypes w n ty → OpensTypes w → j ≤ 12

@@ -21,7 +21,7 @@ use Rattle.ck_grammar.specs.Words.{CloseMark, Other}
 use Rattle.ck_grammar.specs.Written.{specifiers, members, enumerators, optional}
 use Rattle.ck_grammar.specs.Trees as trees
 
--- whether a type stands before the end of these specifiers
+-- whether a type is before the end of these specifiers
 abbrev sees : (Token → Word) → Bool → Specifiers → Bool
 sees w seen NoSpecifiers = seen
 sees w seen (trees.Word t rest) = sees w (seen || is_type_word (sort (w t))) rest

@@ -83,7 +83,7 @@ suffixes_read w p n (PostIncrement t rest) more (suc f) exact h nests stop fuel 
     suffixes_read w p n rest more f exact h.1 nests stop (omega (arith, fuel)) in
     rw (h.0, again) refl
 
--- no string literal is_at first
+-- no string literal comes first
 abbrev pub StopsStrings : (Token → Word) → List Token → Type 0
 StopsStrings w [] = Unit {0}
 StopsStrings w (t ∷ ts) = is_string (w t) ≡ false
@@ -117,7 +117,7 @@ neighbours_read w [] [] h stop = refl
 neighbours_read w [] (t ∷ more) h stop = rw stop refl
 neighbours_read w (t ∷ ts) more h stop = rw (h.0, neighbours_read w ts more h.1 stop) refl
 
--- a primary expression is read, and then what is behind it
+-- a primary expression is read, and then what is after it
 pub primary_read : (w : Token → Word) (p : ℕ → Reader Expr) (ty : Reader (Specifiers × Declarator)) (n : ℕ) (e : Expr)
     (more : List Token)
     → Exact w n p → is_primary e ≡ true → Fits w e → nesting e ≤ suc n → StopsStrings w more
@@ -136,7 +136,7 @@ either : (b : Bool) (e : Expr) (more : List Token) → cond b (suffixed e (NoSuf
 either true e more = refl
 either false e more = refl
 
--- nothing is behind it
+-- nothing is after it
 pub nothing_behind : (w : Token → Word) (p : ℕ → Reader Expr) (n : ℕ) (e : Expr) (more : List Token) → StopsAt w 0 more
     → postfix_after w p n e more ≡ (e, more)
 nothing_behind w p n e more stop = rw (no_more_suffixes w p (length more) more stop)
