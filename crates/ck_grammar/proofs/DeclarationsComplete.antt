@@ -117,8 +117,6 @@ more_read : (bytes : List ℕ) (n : ℕ) (types : Bool) (f : ℕ) (typedefs : Li
     → read_more_declared bytes n types f typedefs (more_declared m (semicolon ∷ more)) ≡ (m, semicolon ∷ more)
 more_read bytes n types zero typedefs NoMoreDeclared semicolon more h nests close fuel = refl
 more_read bytes n types (suc f) typedefs NoMoreDeclared semicolon more h nests close fuel = rw close refl
-more_read bytes n types zero typedefs (AndPlainly comma d rest) semicolon more h nests close fuel =
-    absurd (omega (arith, fuel))
 more_read bytes n types (suc f) typedefs (AndPlainly comma d rest) semicolon more h nests close fuel =
     let behind_d = names_after types bytes d typedefs in
     let first : declarator_at (word_of bytes typedefs) n NewName
@@ -138,8 +136,6 @@ more_read bytes n types (suc f) typedefs (AndPlainly comma d rest) semicolon mor
       and_false (not types),
       again,
     ) refl
-more_read bytes n types zero typedefs (AndInitialised comma d eq i rest) semicolon more h nests close fuel =
-    absurd (omega (arith, fuel))
 more_read bytes n types (suc f) typedefs (AndInitialised comma d eq i rest) semicolon more h nests close fuel =
     let first : declarator_at (word_of bytes typedefs) n NewName
     (declarator d (eq ∷ init i (more_declared rest (semicolon ∷ more)))) ≡ Some
@@ -161,6 +157,7 @@ more_read bytes n types (suc f) typedefs (AndInitialised comma d eq i rest) semi
       longer_init i (more_declared rest (semicolon ∷ more)),
     )) in
     rw (h.0, first, test, h.3, second, again) refl
+more_read bytes n types _ typedefs _ semicolon more h nests close fuel = absurd (omega (arith, fuel))
 
 declared_read : (bytes : List ℕ) (n : ℕ) (types : Bool) (typedefs : List (List ℕ)) (x : Declared) (semicolon : Token)
     (more : List Token)

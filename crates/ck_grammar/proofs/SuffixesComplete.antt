@@ -36,7 +36,6 @@ pub suffixes_read : (w : Token → Word) (p : ℕ → Reader Expr) (n : ℕ) (s 
     → Exact w n p → FitsSuffixes w s → suffixes_nesting s ≤ n → StopsAt w 0 more → length (suffixes s more) ≤ f
     → suffix_loop w p f (suffixes s more) ≡ (s, more)
 suffixes_read w p n NoSuffixes more f exact h nests stop fuel = no_more_suffixes w p f more stop
-suffixes_read w p n (Index o e c rest) more zero exact h nests stop fuel = absurd (omega (arith, fuel))
 suffixes_read w p n (Index o e c rest) more (suc f) exact h nests stop fuel =
     let read : p 13 (written e (c ∷ suffixes rest more)) ≡ Some (e, c ∷ suffixes rest more) =
     exact 13 (omega arith) e (c ∷ suffixes rest more) h.1 (omega (arith, nests)) (loosest w e h.1)
@@ -44,12 +43,10 @@ suffixes_read w p n (Index o e c rest) more (suc f) exact h nests stop fuel =
     let again : suffix_loop w p f (suffixes rest more) ≡ (rest, more) = suffixes_read w p n rest more f exact h.3
     (omega (arith, nests)) stop (omega (arith, fuel, longer e (c ∷ suffixes rest more))) in
     rw (h.0, read, h.2, again) refl
-suffixes_read w p n (CallEmpty o c rest) more zero exact h nests stop fuel = absurd (omega (arith, fuel))
 suffixes_read w p n (CallEmpty o c rest) more (suc f) exact h nests stop fuel =
     let again : suffix_loop w p f (suffixes rest more) ≡ (rest, more) =
     suffixes_read w p n rest more f exact h.2 nests stop (omega (arith, fuel)) in
     rw (h.0, h.1, again) refl
-suffixes_read w p n (Call o e ops c rest) more zero exact h nests stop fuel = absurd (omega (arith, fuel))
 suffixes_read w p n (Call o e ops c rest) more (suc f) exact h nests stop fuel =
     let behind_ops = c ∷ suffixes rest more in
     let stop13 : StopsAt w 13 (c ∷ suffixes rest more) = at_round w c (suffixes rest more) 13 (omega arith) h.2 in
@@ -72,16 +69,15 @@ suffixes_read w p n (Call o e ops c rest) more (suc f) exact h nests stop fuel =
       longer_operands ops (c ∷ suffixes rest more),
     )) in
     rw (h.0, head, read, all, h.2, again) refl
-suffixes_read w p n (MemberAccess t m rest) more zero exact h nests stop fuel = absurd (omega (arith, fuel))
 suffixes_read w p n (MemberAccess t m rest) more (suc f) exact h nests stop fuel =
     let again : suffix_loop w p f (suffixes rest more) ≡ (rest, more) =
     suffixes_read w p n rest more f exact h.2 nests stop (omega (arith, fuel)) in
     rw (h.0, h.1, again) refl
-suffixes_read w p n (PostIncrement t rest) more zero exact h nests stop fuel = absurd (omega (arith, fuel))
 suffixes_read w p n (PostIncrement t rest) more (suc f) exact h nests stop fuel =
     let again : suffix_loop w p f (suffixes rest more) ≡ (rest, more) =
     suffixes_read w p n rest more f exact h.1 nests stop (omega (arith, fuel)) in
     rw (h.0, again) refl
+suffixes_read w p n _ more _ exact h nests stop fuel = absurd (omega (arith, fuel))
 
 -- no string literal comes first
 abbrev pub StopsStrings : (Token → Word) → List Token → Type 0
