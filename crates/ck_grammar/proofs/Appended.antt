@@ -1,4 +1,5 @@
--- A tree before some tokens and more is written as it is before the first of them, and then the others. Crates above may
+-- A tree before some tokens and more is written as it is before the first of them, and then the others. Crates above
+-- may
 -- cite these equations.
 use Rattle.std.proofs.Common.{◌≡◌, List, [], ◌∷◌, ◌++◌, Option, Some, None, refl, ap}
 use Rattle.ck_base.specs.declared.tokens.Token.{Token}

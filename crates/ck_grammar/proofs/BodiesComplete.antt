@@ -101,7 +101,7 @@ members_read w s r n reads_s reads_d none m c more h one nests close =
     (omega (arith, nests)) close (omega arith) in
     rw (all, one) refl
 
--- what stands behind an enumerator's value ends it
+-- what is after an enumerator's value ends it
 end_stops : (w : Token → Word) (comma : Option Token) (c : Token) (more : List Token) → IsComma w comma
     → w c ≡ Fixed (codes "}") → StopsAt w 11 (optional comma (c ∷ more))
 end_stops w None c more h close = at_curly w c more 11 (omega arith) close

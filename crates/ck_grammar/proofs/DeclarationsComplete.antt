@@ -73,7 +73,7 @@ declaration_begins bytes typedefs place (Bare s semicolon) more h = specifiers_b
 declaration_begins bytes typedefs place (Declares s d rest semicolon) more h =
     specifiers_begin (word_of bytes typedefs) place s (declarator d (declared rest (semicolon ∷ more))) h.0.0 h.0.1
 
--- what stands behind a declarator or an initialiser ends it, whatever the typedef names
+-- what is after a declarator or an initialiser ends it, whatever the typedef names
 more_ends : (bytes : List ℕ) (a b : List (List ℕ)) (types : Bool) (m : MoreDeclared) (semicolon : Token)
     (more : List Token)
     → FitsMoreDeclared bytes a types m → word_of bytes b semicolon ≡ Fixed (codes ";")
@@ -117,8 +117,6 @@ more_read : (bytes : List ℕ) (n : ℕ) (types : Bool) (f : ℕ) (typedefs : Li
     → read_more_declared bytes n types f typedefs (more_declared m (semicolon ∷ more)) ≡ (m, semicolon ∷ more)
 more_read bytes n types zero typedefs NoMoreDeclared semicolon more h nests close fuel = refl
 more_read bytes n types (suc f) typedefs NoMoreDeclared semicolon more h nests close fuel = rw close refl
-more_read bytes n types zero typedefs (AndPlainly comma d rest) semicolon more h nests close fuel =
-    absurd (omega (arith, fuel))
 more_read bytes n types (suc f) typedefs (AndPlainly comma d rest) semicolon more h nests close fuel =
     let behind_d = names_after types bytes d typedefs in
     let first : declarator_at (word_of bytes typedefs) n NewName
@@ -138,8 +136,6 @@ more_read bytes n types (suc f) typedefs (AndPlainly comma d rest) semicolon mor
       and_false (not types),
       again,
     ) refl
-more_read bytes n types zero typedefs (AndInitialised comma d eq i rest) semicolon more h nests close fuel =
-    absurd (omega (arith, fuel))
 more_read bytes n types (suc f) typedefs (AndInitialised comma d eq i rest) semicolon more h nests close fuel =
     let first : declarator_at (word_of bytes typedefs) n NewName
     (declarator d (eq ∷ init i (more_declared rest (semicolon ∷ more)))) ≡ Some
@@ -161,6 +157,7 @@ more_read bytes n types (suc f) typedefs (AndInitialised comma d eq i rest) semi
       longer_init i (more_declared rest (semicolon ∷ more)),
     )) in
     rw (h.0, first, test, h.3, second, again) refl
+more_read bytes n types _ typedefs _ semicolon more h nests close fuel = absurd (omega (arith, fuel))
 
 declared_read : (bytes : List ℕ) (n : ℕ) (types : Bool) (typedefs : List (List ℕ)) (x : Declared) (semicolon : Token)
     (more : List Token)
@@ -189,7 +186,7 @@ declared_read bytes n types typedefs (Initialised eq i rest) semicolon more h ne
     (omega (arith, nests)) close (omega arith) in
     rw (test, h.1, first, all) refl
 
--- what stands behind the first declarator of a declaration is read
+-- what is after the first declarator of a declaration is read
 pub declares_read : (bytes : List ℕ) (typedefs : List (List ℕ)) (n : ℕ) (s : Specifiers) (d : Declarator) (x : Declared)
     (semicolon : Token) (more : List Token)
     → FitsDeclared bytes (names_after (is_typedef (word_of bytes typedefs) s) bytes d typedefs)
@@ -205,7 +202,7 @@ declares_read bytes typedefs n s d x semicolon more h nests close =
     (fixed_stays bytes typedefs (names_after types bytes d typedefs) semicolon (codes ";") close) in
     rw (read, close) refl
 
--- what stands behind the first declarator ends it
+-- what is after the first declarator ends it
 pub declared_ends : (bytes : List ℕ) (a b : List (List ℕ)) (types : Bool) (x : Declared) (semicolon : Token)
     (more : List Token)
     → FitsDeclared bytes a types x → word_of bytes b semicolon ≡ Fixed (codes ";")
@@ -224,7 +221,7 @@ declared_no_body bytes a b types (Plainly rest) semicolon more h close =
 declared_no_body bytes a b types (Initialised eq i rest) semicolon more h close =
     rw (fixed_stays bytes a b eq (codes "=") h.1) refl
 
--- a declaration is read, whatever stands behind it
+-- a declaration is read, whatever is after it
 pub declaration_read : (bytes : List ℕ) (typedefs : List (List ℕ)) (n : ℕ) (place : Place) (x : Declaration)
     (more : List Token)
     → FitsDeclaration bytes typedefs place x → declaration_nesting x ≤ n → declaration_at bytes typedefs n place

@@ -32,7 +32,7 @@ abbrev pub ReadsDeclarators : (Token → Word) → ℕ → Naming → Reader Dec
 ReadsDeclarators w n naming r = (d : Declarator) (more : List Token) → FitsDeclarator w naming d
     → declarator_nesting d ≤ n → StopsDeclarator w more → r (declarator d more) ≡ Some (d, more)
 
--- no star and no qualifier is_at first
+-- no star and no qualifier comes first
 abbrev StopsPointer : (Token → Word) → List Token → Type 0
 StopsPointer w [] = Unit {0}
 StopsPointer w (t ∷ ts) = is_pointer_part (sort (w t)) ≡ false

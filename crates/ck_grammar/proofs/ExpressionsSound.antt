@@ -1,4 +1,4 @@
--- What the readers of expressions read is spelled so, where it is for the readers of what stands inside.
+-- What the readers of expressions read is spelled so, where it is for the readers of what is inside.
 use Rattle.std.proofs.Common.{◌≡◌, ℕ, zero, suc, ◌≤◌, true, false, List, [], ◌∷◌, ◌++◌, length, Some, None, nat_eq}
 use Rattle.std.proofs.Common.{nat_le, refl, ap, ◌∙◌, arith}
 use Rattle.std.specs.Prelude.{codes}

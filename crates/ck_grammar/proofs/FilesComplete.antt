@@ -22,7 +22,7 @@ use Rattle.ck_grammar.specs.StatementsWritten.{declared, items, external, file}
 use Rattle.ck_grammar.specs.Words.{word_of}
 use Rattle.ck_grammar.specs.Written.{specifiers, declarator}
 
--- an external declaration is read, whatever stands behind it
+-- an external declaration is read, whatever is after it
 pub external_read : (bytes : List ℕ) (typedefs : List (List ℕ)) (n : ℕ) (x : External) (more : List Token)
     → FitsExternal bytes typedefs x → external_nesting x ≤ suc n → external_at bytes typedefs n (external x more) ≡ Some
     (x, more)

@@ -79,7 +79,7 @@ designation_read w p n (Some ds) i more reads h nests good =
     nests (omega arith) in
     rw (designators_begin w ds (init i more) h.0 h.1, all) refl
 
--- what stands behind the last initialiser ends it
+-- what is after the last initialiser ends it
 end_stops : (w : Token → Word) (comma : Option Token) (c : Token) (more : List Token) → IsComma w comma
     → w c ≡ Fixed (codes "}") → StopsAt w 12 (optional comma (c ∷ more))
 end_stops w None c more h close = at_curly w c more 12 (omega arith) close

@@ -34,7 +34,7 @@ by_test false x y z first second = second refl
 equal : (a b : ℕ) → nat_eq a b ≡ true → a ≡ b
 equal a b h = grind (arith, nat_tests)
 
--- nothing of the level is behind it
+-- nothing of the level is after it
 nothing_more : (w : Token → Word) (p : ℕ → Reader Expr) (n j : ℕ) (e : Expr) (ts : List Token) → StopsAt w (suc j) ts
     → more w p n j e ts ≡ (e, ts)
 nothing_more w p n j e ts stop = by_test (nat_le (nesting e) n) _ _ _
@@ -57,14 +57,6 @@ same_level : (w : Token → Word) (p : ℕ → Reader Expr) (ty : Reader (Specif
     → Exact w n p → Below w p ty n j → j ≤ 12 → suc j ≤ precedence w e → precedence w e ≤ suc j → Fits w e
     → nesting e ≤ suc n → StopsAt w (suc j) ts
     → level_reader w p ty n (suc j) (written e ts) ≡ Some (e, ts)
-same_level w p ty n j (Name t) ts exact below bound low high h nests stop = absurd (omega (arith, low))
-same_level w p ty n j (Constant t) ts exact below bound low high h nests stop = absurd (omega (arith, low))
-same_level w p ty n j (Strings t us) ts exact below bound low high h nests stop = absurd (omega (arith, low))
-same_level w p ty n j (Paren o e c) ts exact below bound low high h nests stop = absurd (omega (arith, low))
-same_level w p ty n j (Postfix e s) ts exact below bound low high h nests stop = absurd (omega (arith, low))
-same_level w p ty n j (Unary op e) ts exact below bound low high h nests stop = absurd (omega (arith, low))
-same_level w p ty n j (SizeofType k o s d c) ts exact below bound low high h nests stop = absurd (omega (arith, low))
-same_level w p ty n j (Cast o s d c e) ts exact below bound low high h nests stop = absurd (omega (arith, low))
 same_level w p ty n j (Chain e ops) ts exact below bound low high h nests stop =
     let level_is : chain_level w ops ≡ suc j = omega (arith, low, high) in
     let fits : FitsOperands w (suc j) ops = rw level_is at h.3 in
@@ -101,6 +93,7 @@ same_level w p ty n j (Assignment e op b) ts exact below bound low high h nests 
     let last : p 12 (written b ts) ≡ Some (b, ts) = exact 12 (omega arith) b ts h.2.0 (omega (arith, nests)) h.2.1
     (stops_below w 12 (suc j) ts (omega (arith, eleven)) stop) in
     rw (first, shallow, not_ten, eleven', h.1, h.0.1, last) refl
+same_level w p ty n j _ ts exact below bound low high h nests stop = absurd (omega (arith, low))
 
 pub level_read : (w : Token → Word) (p : ℕ → Reader Expr) (ty : Reader (Specifiers × Declarator)) (n j : ℕ)
     → Exact w n p → ReadsTypes w n ty → OpensTypes w → j ≤ 13 → Below w p ty n j

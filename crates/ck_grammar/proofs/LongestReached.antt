@@ -1,4 +1,4 @@
--- Where an expression is written, whatever stands behind it, the readers read one that leaves no more tokens than it
+-- Where an expression is written, whatever is after it, the readers read one that leaves no more tokens than it
 -- does.
 use Rattle.std.proofs.Common.{◌≡◌, ℕ, zero, suc, ◌≤◌, Bool, true, false, cond, List, [], ◌∷◌, ◌++◌, length, Some, None}
 use Rattle.std.proofs.Common.{nat_eq, nat_le, refl, ap, arith, inl, inr}
@@ -98,7 +98,6 @@ suffixes_reach : (w : Token → Word) (p : ℕ → Reader Expr) (n : ℕ) (s : S
     → Exact w n p → SoundExprs w n p → FitsSuffixes w s → suffixes_nesting s ≤ n → length (suffixes s more) ≤ f
     → length (suffix_loop w p f (suffixes s more)).1 ≤ length more
 suffixes_reach w p n NoSuffixes more f exact sound h nests fuel = suffix_loop_keeps w p n f more sound
-suffixes_reach w p n (Index o e c rest) more zero exact sound h nests fuel = absurd (omega (arith, fuel))
 suffixes_reach w p n (Index o e c rest) more (suc f) exact sound h nests fuel =
     let read : p 13 (written e (c ∷ suffixes rest more)) ≡ Some (e, c ∷ suffixes rest more) =
     exact 13 (omega arith) e (c ∷ suffixes rest more) h.1 (omega (arith, nests)) (loosest w e h.1)
@@ -106,10 +105,8 @@ suffixes_reach w p n (Index o e c rest) more (suc f) exact sound h nests fuel =
     rw (h.0, read, h.2)
     (suffixes_reach w p n rest more f exact sound h.3 (omega (arith, nests))
     (omega (arith, fuel, longer e (c ∷ suffixes rest more))))
-suffixes_reach w p n (CallEmpty o c rest) more zero exact sound h nests fuel = absurd (omega (arith, fuel))
 suffixes_reach w p n (CallEmpty o c rest) more (suc f) exact sound h nests fuel =
     rw (h.0, h.1) (suffixes_reach w p n rest more f exact sound h.2 nests (omega (arith, fuel)))
-suffixes_reach w p n (Call o e ops c rest) more zero exact sound h nests fuel = absurd (omega (arith, fuel))
 suffixes_reach w p n (Call o e ops c rest) more (suc f) exact sound h nests fuel =
     let stop13 : StopsAt w 13 (c ∷ suffixes rest more) = at_round w c (suffixes rest more) 13 (omega arith) h.2 in
     let head : begins_operand w (written e (operands ops (c ∷ suffixes rest more))) ≡ true =
@@ -130,12 +127,11 @@ suffixes_reach w p n (Call o e ops c rest) more (suc f) exact sound h nests fuel
       longer e (operands ops (c ∷ suffixes rest more)),
       longer_operands ops (c ∷ suffixes rest more),
     )))
-suffixes_reach w p n (MemberAccess t m rest) more zero exact sound h nests fuel = absurd (omega (arith, fuel))
 suffixes_reach w p n (MemberAccess t m rest) more (suc f) exact sound h nests fuel =
     rw (h.0, h.1) (suffixes_reach w p n rest more f exact sound h.2 nests (omega (arith, fuel)))
-suffixes_reach w p n (PostIncrement t rest) more zero exact sound h nests fuel = absurd (omega (arith, fuel))
 suffixes_reach w p n (PostIncrement t rest) more (suc f) exact sound h nests fuel =
     rw h.0 (suffixes_reach w p n rest more f exact sound h.1 nests (omega (arith, fuel)))
+suffixes_reach w p n _ more _ exact sound h nests fuel = absurd (omega (arith, fuel))
 
 -- a suffix is no string literal
 suffix_first : (w : Token → Word) (s : Suffixes) (more : List Token) → FitsSuffixes w s → has_suffix s ≡ true
@@ -331,30 +327,12 @@ more_keeps w p n j e r le sound =
     (operand_loop_keeps w p n j (length r) r le sound))))
     (λ _. omega arith)
 
--- a level at which the tree itself stands
+-- a level at which the tree itself is
 same_level_reach : (w : Token → Word) (p : ℕ → Reader Expr) (ty : Reader (Specifiers × Declarator)) (n j : ℕ) (e : Expr)
     (ts : List Token)
     → Exact w n p → SoundExprs w n p → ReachesExprs w n p → ReadsTypes w n ty → OpensTypes w → j ≤ 12
     → suc j ≤ precedence w e → precedence w e ≤ suc j → Fits w e → nesting e ≤ suc n
     → Reaches (length ts) (level_reader w p ty n (suc j) (written e ts))
-same_level_reach w p ty n j (Name t) ts exact sound reach types opens bound low high h nests =
-    absurd (omega (arith, low))
-same_level_reach w p ty n j (Constant t) ts exact sound reach types opens bound low high h nests =
-    absurd (omega (arith, low))
-same_level_reach w p ty n j (Strings t us) ts exact sound reach types opens bound low high h nests =
-    absurd (omega (arith, low))
-same_level_reach w p ty n j (Paren o e c) ts exact sound reach types opens bound low high h nests =
-    absurd (omega (arith, low))
-same_level_reach w p ty n j (Postfix e s) ts exact sound reach types opens bound low high h nests =
-    absurd (omega (arith, low))
-same_level_reach w p ty n j (Unary op e) ts exact sound reach types opens bound low high h nests =
-    absurd (omega (arith, low))
-same_level_reach w p ty n j (SizeofType k o s d c) ts exact sound reach types opens bound low high h nests =
-    absurd (omega (arith, low))
-same_level_reach w p ty n j (Cast o s d c e) ts exact sound reach types opens bound low high h nests =
-    absurd (omega (arith, low))
-same_level_reach w p ty n j (Chain e NoOperands) ts exact sound reach types opens bound low high h nests =
-    absurd (omega (arith, low))
 same_level_reach w p ty n j (Chain e (Operand op a rest)) ts exact sound reach types opens bound low high h nests =
     let ops : Operands = Operand op a rest in
     let level_is : chain_level w ops ≡ suc j = omega (arith, low, high) in
@@ -405,6 +383,7 @@ same_level_reach w p ty n j (Assignment e op b) ts exact sound reach types opens
     (reach_then (length ts) (length ts) (IsExpr w n 12 (written b ts)) (p 12 (written b ts)) _
     (sound 12 (omega arith) (written b ts)) (reach 12 (omega arith) b ts h.2.0 (omega (arith, nests)) h.2.1)
     (λ f r is le. le)))
+same_level_reach w p ty n j _ ts exact sound reach types opens bound low high h nests = absurd (omega (arith, low))
 
 pub level_reach : (w : Token → Word) (p : ℕ → Reader Expr) (ty : Reader (Specifiers × Declarator)) (n : ℕ)
     → Exact w n p → SoundExprs w n p → SoundTypes w n ty → ReachesExprs w n p → UnaryReads w p → ReadsTypes w n ty

@@ -20,7 +20,7 @@ others_of (t ∷ ts) = ts
 longer_rest : (ts rest more : List Token) (t : Token) → rest ≡ (t ∷ (ts ++ more)) → length rest ≡ length more → ⊥
 longer_rest ts rest more t same lengths = omega (arith, ap length same, lengths, longer_append ts more)
 
--- what stands before rests of one length is one
+-- what is before rests of one length is one
 same_front : (ts us rest more : List Token) → (ts ++ rest) ≡ (us ++ more) → length rest ≡ length more → (ts ≡ us)
     × (rest ≡ more)
 same_front [] [] rest more same lengths = (refl, same)

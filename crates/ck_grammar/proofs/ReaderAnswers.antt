@@ -8,7 +8,7 @@ use Rattle.ck_grammar.specs.Words.{is_text, Word, Fixed, is_identifier}
 use Rattle.std.specs.Prelude.{codes}
 use Prim.Native.String.{String}
 
--- what is read, if anything is, and the tokens behind it are so
+-- what is read, if anything is, and the tokens after it are so
 abbrev pub OnRead : {A : Type 0} → (A → List Token → Type 0) → Read A → Type 0
 OnRead P None = Unit {0}
 OnRead P (Some x) = P x.0 x.1
@@ -16,7 +16,7 @@ OnRead P (Some x) = P x.0 x.1
 abbrev pub OnPair : {A : Type 0} → (A → List Token → Type 0) → A × List Token → Type 0
 OnPair P x = P x.0 x.1
 
--- these tokens are what a good tree spells and the tokens behind it
+-- these tokens are what a good tree spells and the tokens after it
 pub record IsSpelled {A : Type 0} (Good : A → Type 0) (spells : A → List Token → List Token) (ts : List Token) (x : A)
     (r : List Token) : Type 0 where
   pub tokens_are : spells x r ≡ ts

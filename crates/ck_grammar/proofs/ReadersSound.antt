@@ -68,7 +68,7 @@ on_answer : {A : Type 0} (P : A → List Token → Type 0) (m : Read A) (x : A) 
     → OnRead P m → P x r
 on_answer P m x r e h = rw e at h
 
--- what is read as an expression of a level is one, and these are its tokens and those behind it
+-- what is read as an expression of a level is one, and these are its tokens and those after it
 pub expression_read : (w : Token → Word) (n j : ℕ) (ts : List Token) (e : Expr) (r : List Token) → j ≤ 13
     → expr_at w n j ts ≡ Some (e, r) → IsExpr w n j ts e r
 expression_read w n j ts e r le read = on_answer (IsExpr w n j ts) (expr_at w n j ts) e r read

@@ -21,7 +21,7 @@ use Rattle.ck_grammar.specs.Words.{CloseMark, Other}
 use Rattle.ck_grammar.specs.Written.{specifiers, members, enumerators, optional}
 use Rattle.ck_grammar.specs.Trees as trees
 
--- whether a type stands before the end of these specifiers
+-- whether a type is before the end of these specifiers
 abbrev sees : (Token → Word) → Bool → Specifiers → Bool
 sees w seen NoSpecifiers = seen
 sees w seen (trees.Word t rest) = sees w (seen || is_type_word (sort (w t))) rest
@@ -180,28 +180,20 @@ loop_read : (w : Token → Word) (ms : Reader Members) (es : Reader Enumerators)
     → specifier_loop w ms es f seen (specifiers s more) ≡ (s, more)
 loop_read w ms es n seen NoSpecifiers more f reads_m reads_e h sees_it nests stop fuel =
     ap (λ b. specifier_loop w ms es f b more) sees_it ∙ no_more_specifiers w ms es f more stop
-loop_read w ms es n seen (trees.Word t rest) more zero reads_m reads_e h sees_it nests stop fuel =
-    absurd (omega (arith, fuel))
 loop_read w ms es n seen (trees.Word t rest) more (suc f) reads_m reads_e h sees_it nests stop fuel =
     word_by w ms es (specifier_loop w ms es f) seen (sort (w t)) t (specifiers rest more) h.0
     ∙ ap (onto (trees.Word t))
     (loop_read w ms es n (seen || is_type_word (sort (w t))) rest more f reads_m reads_e h.1 sees_it nests stop
     (omega (arith, fuel)))
-loop_read w ms es n seen (TypedefName t rest) more zero reads_m reads_e h sees_it nests stop fuel =
-    absurd (omega (arith, fuel))
 loop_read w ms es n seen (TypedefName t rest) more (suc f) reads_m reads_e h sees_it nests stop fuel =
     typedef_by w ms es (specifier_loop w ms es f) seen (sort (w t)) t (specifiers rest more) (rw h.0 refl) h.1
     ∙ ap (onto (TypedefName t))
     (loop_read w ms es n true rest more f reads_m reads_e h.2 sees_it nests stop (omega (arith, fuel)))
-loop_read w ms es n seen (Tagged k t rest) more zero reads_m reads_e h sees_it nests stop fuel =
-    absurd (omega (arith, fuel))
 loop_read w ms es n seen (Tagged k t rest) more (suc f) reads_m reads_e h sees_it nests stop fuel =
     tag_by w ms es (specifier_loop w ms es f) seen (sort (w k)) k t (specifiers rest more) h.0 h.1
     (no_body w true rest more h.2 stop)
     ∙ ap (onto (Tagged k t))
     (loop_read w ms es n true rest more f reads_m reads_e h.2 sees_it nests stop (omega (arith, fuel)))
-loop_read w ms es n seen (Struct k tag o m c rest) more zero reads_m reads_e h sees_it nests stop fuel =
-    absurd (omega (arith, fuel))
 loop_read w ms es n seen (Struct k tag o m c rest) more (suc f) reads_m reads_e h sees_it nests stop fuel =
     struct_by w ms es (specifier_loop w ms es f) seen (sort (w k)) k o tag m c (specifiers rest more) h.0 h.1 h.2
     (reads_m m c (specifiers rest more) h.3.0 h.3.1 (omega (arith, nests)) h.4) h.4
@@ -213,8 +205,6 @@ loop_read w ms es n seen (Struct k tag o m c rest) more (suc f) reads_m reads_e 
       longer_optional tag (o ∷ members m (c ∷ specifiers rest more)),
       longer_members m (c ∷ specifiers rest more),
     )))
-loop_read w ms es n seen (Enum k tag o m c rest) more zero reads_m reads_e h sees_it nests stop fuel =
-    absurd (omega (arith, fuel))
 loop_read w ms es n seen (Enum k tag o m c rest) more (suc f) reads_m reads_e h sees_it nests stop fuel =
     enum_by w ms es (specifier_loop w ms es f) seen (sort (w k)) k o tag m c (specifiers rest more) h.0 h.1 h.2
     (reads_e m c (specifiers rest more) h.3 (omega (arith, nests)) h.4) h.4
@@ -226,6 +216,7 @@ loop_read w ms es n seen (Enum k tag o m c rest) more (suc f) reads_m reads_e h 
       longer_optional tag (o ∷ enumerators m (c ∷ specifiers rest more)),
       longer_enumerators m (c ∷ specifiers rest more),
     )))
+loop_read w ms es n seen _ more _ reads_m reads_e h sees_it nests stop fuel = absurd (omega (arith, fuel))
 
 pub specifiers_read : (w : Token → Word) (ms : Reader Members) (es : Reader Enumerators) (n : ℕ) (place : Place)
     → ReadsMembers w n ms → ReadsEnumerators w n es → ReadsSpecifiers w n place (read_specifiers w ms es place)

@@ -35,12 +35,12 @@ use Rattle.ck_grammar.specs.Trees.{Expr}
 use Rattle.ck_grammar.specs.Words.{begins_lead, Word, Fixed, begins_specifiers, lead, word_of}
 use Rattle.ck_grammar.specs.Written.{written}
 
--- the reader reads declarations in a block that nest so deep, whatever stands behind them
+-- the reader reads declarations in a block that nest so deep, whatever is after them
 abbrev ReadsDeclarations : List ℕ → List (List ℕ) → ℕ → Reader Declaration → Type 0
 ReadsDeclarations bytes typedefs n d = (x : Declaration) (more : List Token) → FitsDeclaration bytes typedefs InBlock x
     → declaration_nesting x ≤ n → d (declaration x more) ≡ Some (x, more)
 
--- no `else` stands behind a statement that it would belong to
+-- no `else` is after a statement that it would belong to
 abbrev pub StopsStatement : (Token → Word) → Statement → List Token → Type 0
 StopsStatement w s more = ends_open s ≡ true → is_at w "else" more ≡ false
 

@@ -67,7 +67,7 @@ IsItems bytes typedefs n ts = IsSpelled (GoodItems bytes typedefs n) items ts
 abbrev pub IsExternal : List ℕ → List (List ℕ) → ℕ → List Token → External → List Token → Type 0
 IsExternal bytes typedefs n ts = IsSpelled (GoodExternal bytes typedefs n) external ts
 
--- and no `else` stands behind a statement that would take it
+-- and no `else` is after a statement that would take it
 abbrev pub IsStatement : List ℕ → List (List ℕ) → ℕ → List Token → Statement → List Token → Type 0
 IsStatement bytes typedefs n ts s r = IsSpelled (GoodStatement bytes typedefs n) statement ts s r
     × (ends_open s ≡ true → is_at (word_of bytes typedefs) "else" r ≡ false)
@@ -178,7 +178,7 @@ evaluates_sound bytes typedefs p n ts sound =
       closed,
     )))
 
--- behind the test of an `if` and its statement
+-- after the test of an `if` and its statement
 else_sound : (bytes : List ℕ) (typedefs : List (List ℕ)) (s : Reader Statement) (n : ℕ) (k o c : Token) (e : Expr)
     (x : Statement) (ts r r' : List Token)
     → word_of bytes typedefs k ≡ Fixed (codes "if") → word_of bytes typedefs o ≡ Fixed (codes "(")

@@ -36,7 +36,6 @@ pub suffixes_read : (w : Token → Word) (p : ℕ → Reader Expr) (n : ℕ) (s 
     → Exact w n p → FitsSuffixes w s → suffixes_nesting s ≤ n → StopsAt w 0 more → length (suffixes s more) ≤ f
     → suffix_loop w p f (suffixes s more) ≡ (s, more)
 suffixes_read w p n NoSuffixes more f exact h nests stop fuel = no_more_suffixes w p f more stop
-suffixes_read w p n (Index o e c rest) more zero exact h nests stop fuel = absurd (omega (arith, fuel))
 suffixes_read w p n (Index o e c rest) more (suc f) exact h nests stop fuel =
     let read : p 13 (written e (c ∷ suffixes rest more)) ≡ Some (e, c ∷ suffixes rest more) =
     exact 13 (omega arith) e (c ∷ suffixes rest more) h.1 (omega (arith, nests)) (loosest w e h.1)
@@ -44,12 +43,10 @@ suffixes_read w p n (Index o e c rest) more (suc f) exact h nests stop fuel =
     let again : suffix_loop w p f (suffixes rest more) ≡ (rest, more) = suffixes_read w p n rest more f exact h.3
     (omega (arith, nests)) stop (omega (arith, fuel, longer e (c ∷ suffixes rest more))) in
     rw (h.0, read, h.2, again) refl
-suffixes_read w p n (CallEmpty o c rest) more zero exact h nests stop fuel = absurd (omega (arith, fuel))
 suffixes_read w p n (CallEmpty o c rest) more (suc f) exact h nests stop fuel =
     let again : suffix_loop w p f (suffixes rest more) ≡ (rest, more) =
     suffixes_read w p n rest more f exact h.2 nests stop (omega (arith, fuel)) in
     rw (h.0, h.1, again) refl
-suffixes_read w p n (Call o e ops c rest) more zero exact h nests stop fuel = absurd (omega (arith, fuel))
 suffixes_read w p n (Call o e ops c rest) more (suc f) exact h nests stop fuel =
     let behind_ops = c ∷ suffixes rest more in
     let stop13 : StopsAt w 13 (c ∷ suffixes rest more) = at_round w c (suffixes rest more) 13 (omega arith) h.2 in
@@ -72,18 +69,17 @@ suffixes_read w p n (Call o e ops c rest) more (suc f) exact h nests stop fuel =
       longer_operands ops (c ∷ suffixes rest more),
     )) in
     rw (h.0, head, read, all, h.2, again) refl
-suffixes_read w p n (MemberAccess t m rest) more zero exact h nests stop fuel = absurd (omega (arith, fuel))
 suffixes_read w p n (MemberAccess t m rest) more (suc f) exact h nests stop fuel =
     let again : suffix_loop w p f (suffixes rest more) ≡ (rest, more) =
     suffixes_read w p n rest more f exact h.2 nests stop (omega (arith, fuel)) in
     rw (h.0, h.1, again) refl
-suffixes_read w p n (PostIncrement t rest) more zero exact h nests stop fuel = absurd (omega (arith, fuel))
 suffixes_read w p n (PostIncrement t rest) more (suc f) exact h nests stop fuel =
     let again : suffix_loop w p f (suffixes rest more) ≡ (rest, more) =
     suffixes_read w p n rest more f exact h.1 nests stop (omega (arith, fuel)) in
     rw (h.0, again) refl
+suffixes_read w p n _ more _ exact h nests stop fuel = absurd (omega (arith, fuel))
 
--- no string literal is_at first
+-- no string literal comes first
 abbrev pub StopsStrings : (Token → Word) → List Token → Type 0
 StopsStrings w [] = Unit {0}
 StopsStrings w (t ∷ ts) = is_string (w t) ≡ false
@@ -117,7 +113,7 @@ neighbours_read w [] [] h stop = refl
 neighbours_read w [] (t ∷ more) h stop = rw stop refl
 neighbours_read w (t ∷ ts) more h stop = rw (h.0, neighbours_read w ts more h.1 stop) refl
 
--- a primary expression is read, and then what is behind it
+-- a primary expression is read, and then what is after it
 pub primary_read : (w : Token → Word) (p : ℕ → Reader Expr) (ty : Reader (Specifiers × Declarator)) (n : ℕ) (e : Expr)
     (more : List Token)
     → Exact w n p → is_primary e ≡ true → Fits w e → nesting e ≤ suc n → StopsStrings w more
@@ -136,7 +132,7 @@ either : (b : Bool) (e : Expr) (more : List Token) → cond b (suffixed e (NoSuf
 either true e more = refl
 either false e more = refl
 
--- nothing is behind it
+-- nothing is after it
 pub nothing_behind : (w : Token → Word) (p : ℕ → Reader Expr) (n : ℕ) (e : Expr) (more : List Token) → StopsAt w 0 more
     → postfix_after w p n e more ≡ (e, more)
 nothing_behind w p n e more stop = rw (no_more_suffixes w p (length more) more stop)

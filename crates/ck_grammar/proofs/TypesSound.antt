@@ -1,4 +1,4 @@
--- What the readers of specifiers and declarators read is spelled so, where it is for the readers of what stands inside.
+-- What the readers of specifiers and declarators read is spelled so, where it is for the readers of what is inside.
 use Rattle.std.proofs.Common.{◌≡◌, ℕ, zero, suc, ◌≤◌, Bool, true, false, ◌&&◌, ◌||◌, not, cond, List, [], ◌∷◌, ◌++◌}
 use Rattle.std.proofs.Common.{length, Option, Some, None, refl, sym, ap, ◌∙◌, arith}
 use Rattle.std.specs.Prelude.{codes}
@@ -102,7 +102,7 @@ IsDims w n ts = IsSpelled (GoodDims w n) dims ts
 no_specifiers : (w : Token → Word) (n : ℕ) (seen : Bool) (ts : List Token) → IsEach w n seen ts NoSpecifiers ts
 no_specifiers w n seen ts = record { tokens_are = refl; good = (tt, omega arith) }
 
--- a body, and the specifiers behind it
+-- a body, and the specifiers after it
 body_sound : {M : Type 0} (Good : M → Type 0) (spells : M → List Token → List Token)
     (Q : Specifiers → List Token → Type 0) (w : Token → Word) (n : ℕ) (inner : Reader M)
     (make : Token → M → Token → Specifiers → Specifiers) (go : List Token → Specifiers × List Token) (ts : List Token)

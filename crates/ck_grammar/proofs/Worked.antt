@@ -67,7 +67,7 @@ member_named_as_type : Spells
     (codes "t" ∷ [])
 member_named_as_type = record { tokens_are = refl; fits = search arith; nests = omega arith }
 
--- `sizeof (enum { A, B = 2, })`: the last enumerator may have a comma behind it
+-- `sizeof (enum { A, B = 2, })`: the last enumerator may have a comma after it
 enumerators : Spells
     (SizeofType (at kinds.Key 0 6) (at kinds.Mark 7 8)
     (Enum (at kinds.Key 8 12) None (at kinds.Mark 13 14)

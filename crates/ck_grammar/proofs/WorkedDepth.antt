@@ -162,7 +162,8 @@ spelled_100 = main_spelled (main_text 100) (tokens_at 100) (pairs_at 100 17 217)
     })
     (tests_hold (word_of (main_text 100) []) (pairs_at 100 17 217) refl) (omega arith)
 
-too_deep_201 : (xs : List External) → SpellsFile xs (main_text 201) (file (main_of (tokens_at 201) (pairs_at 201 17 419)) [])
+too_deep_201 : (xs : List External)
+    → SpellsFile xs (main_text 201) (file (main_of (tokens_at 201) (pairs_at 201 17 419)) [])
     → ⊥
 too_deep_201 = main_too_deep (main_text 201) (tokens_at 201) (pairs_at 201 17 419)
     (record {
