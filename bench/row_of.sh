@@ -3,13 +3,13 @@
 #
 #   bench/row_of.sh [TESTS]
 #
-# TESTS is the program of the built tests: the argument, or else what `rt test` in crates/ck_tests leaves. Three of its
+# TESTS is the program of the built tests: the argument, or else what `rt test` in crates/ck_words_tests leaves. Three of its
 # tests are run, each one kind of name, and the calls of `row_of` in them are counted.
 # bench/README.md says what is measured and how to read it.
 set -eu
 top=$(cd "$(dirname "$0")/.." && pwd)
-tests=${1:-$top/crates/ck_tests/out/ck_tests_tests}
-[ -x "$tests" ] || { echo "row_of.sh: $tests is no program; run 'rt test' in crates/ck_tests, or name one" >&2; exit 1; }
+tests=${1:-$top/crates/ck_words_tests/out/ck_words_tests_tests}
+[ -x "$tests" ] || { echo "row_of.sh: $tests is no program; run 'rt test' in crates/ck_words_tests, or name one" >&2; exit 1; }
 command -v valgrind >/dev/null || { echo "instructions per call: not measured, valgrind isn't installed"; exit 0; }
 tests=$(cd "$(dirname "$tests")" && pwd)/$(basename "$tests")
 

@@ -9,7 +9,7 @@ top=$(cd "$(dirname "$0")/.." && pwd)
 program=$top/crates/ck_program/out/ck_program
 
 newer() { # the sources that changed after the program was built
-  find "$top/crates.txt" "$top/crates" \( -name out -o -name ck_tests -o -name must-fail \) -prune -o \
+  find "$top/crates.txt" "$top/crates" \( -name out -o -name '*_tests' -o -name must-fail \) -prune -o \
     -type f \( -name '*.rt' -o -name '*.antt' -o -name crates.txt \) -newer "$program" -print
 }
 

@@ -1,6 +1,11 @@
 #!/bin/sh
-# Whether tools/preprocess.sh makes of each example's C sources a text that a compiler accepts, with each compiler that is
-# here, gcc and clang. The text names the stub headers as include/.., so no path of this machine stands in it.
+# Whether tools/preprocess.sh does what docs/PREPROCESSING.md says, with each compiler that is here, gcc and clang:
+#
+# - it makes of each example's C sources a text that the compiler accepts and that has no path of this machine;
+# - texts of sources that are gone are removed, and no other files;
+# - a folder of --headers is searched before the stub headers, and one of -I after them;
+# - carriage returns at the ends of lines are taken out;
+# - what the compiler refuses is passed on, with status 1, and the folder stays as it was.
 set -eu
 top=$(cd "$(dirname "$0")/.." && pwd)
 cd "$top"
@@ -8,25 +13,109 @@ failed=0
 dir=$(mktemp -d)
 trap 'rm -rf "$dir"' EXIT
 
+right() { # right LINE: the line, as a success
+  echo "own check: $1"
+}
+wrong() { # wrong LINE: the line, as a failure, and what was said
+  failed=$((failed + 1))
+  echo "own check: FAILED: $1"
+  cat "$dir/said"
+}
+run() { # run WORD..: preprocess.sh with these words; its status in $status, what it says in the file said
+  status=0
+  CC=$compiler tools/preprocess.sh "$@" > "$dir/said" 2>&1 || status=$?
+}
+files() { # files FOLDER: its .i files
+  (cd "$1" && ls -- *.i 2>/dev/null | tr '\n' ' ')
+}
+
+examples() {
+  for folder in examples/*/; do
+    folder=${folder%/}
+    set -- "$folder"/*.c
+    [ -e "$1" ] || continue
+    run "$@" --out "$dir/$folder"
+    [ "$status" -ne 0 ] || for text in "$dir/$folder"/*.i; do
+      "$compiler" -std=c99 -fsyntax-only -x cpp-output "$text" || status=1
+    done > "$dir/said" 2>&1
+    if [ "$status" -eq 0 ] && [ "$(ls "$dir/$folder" | wc -l)" -eq $# ] && ! grep -n -F "$top" "$dir/$folder"/*.i > "$dir/said"; then
+      right "$folder: preprocessed, and $compiler accepts the text"
+    else
+      wrong "$folder, preprocessed with $compiler"
+    fi
+  done
+}
+
+sources_that_are_gone() {
+  for name in one two three; do echo "int $name;" > "$dir/$name.c"; done
+  run "$dir/one.c" "$dir/two.c" "$dir/three.c" --out "$dir/out"
+  echo 'int mine;' > "$dir/out/mine.i"
+  echo 'int changed;' >> "$dir/out/three.i"
+  run "$dir/one.c" --out "$dir/out"
+  if [ "$status" -eq 0 ] && [ "$(files "$dir/out")" = 'mine.i one.i three.i ' ] && grep -q '/mine\.i is of no source' "$dir/said" &&
+    grep -q '/three\.i is of no source' "$dir/said" && [ "$(wc -l < "$dir/said")" -eq 2 ]; then
+    right "texts of sources that are gone are removed, and no others ($compiler)"
+  else
+    files "$dir/out" >> "$dir/said"
+    wrong "texts of sources that are gone ($compiler)"
+  fi
+}
+
+headers_of_ones_own() {
+  mkdir "$dir/own headers" "$dir/src"
+  printf '#include "rtcheck_ch.h"\ntypedef struct { int state; } GPTDriver;\n' > "$dir/own headers/hal.h"
+  printf '#include "ch.h"\n#include "hal.h"\nGPTDriver driver;\n' > "$dir/src/main.c"
+  run "$dir/src/main.c" --out "$dir/after" "-I$dir/own headers"
+  after=$status
+  run "$dir/src/main.c" --out "$dir/before" --headers "$dir/own headers"
+  if [ "$after" -eq 1 ] && [ "$status" -eq 0 ] && [ ! -e "$dir/after" ] && grep -q 'chSysLock' "$dir/before/main.i"; then
+    right "headers of one's own are found before the stub headers ($compiler)"
+  else
+    wrong "headers of one's own: status $status before the stub headers, $after after them ($compiler)"
+  fi
+}
+
+carriage_returns() {
+  cat > "$dir/with_returns" <<END
+#!/bin/sh
+case "\$*" in *-fsyntax-only*) exec $compiler "\$@" ;; esac
+$compiler "\$@" | awk '{ printf "%s\\r\\n", \$0 }'
+END
+  chmod +x "$dir/with_returns"
+  printf 'int a;\r\nint b;\r\n' > "$dir/returns.c"
+  plain=$compiler compiler=$dir/with_returns
+  run "$dir/returns.c" --out "$dir/returned"
+  compiler=$plain
+  if [ "$status" -eq 0 ] && grep -q 'int b;' "$dir/returned/returns.i" && [ "$(tr -cd '\r' < "$dir/returned/returns.i" | wc -c)" -eq 0 ]; then
+    right "carriage returns at the ends of lines are taken out ($compiler)"
+  else
+    wrong "carriage returns ($compiler)"
+  fi
+}
+
+refusals() {
+  printf 'int main(void) {\n  return 0\n}\n' > "$dir/broken.c"
+  echo '#include "no_such_header.h"' > "$dir/lost.c"
+  run "$dir/one.c" --out "$dir/kept"
+  run "$dir/two.c" "$dir/broken.c" "$dir/lost.c" --out "$dir/kept"
+  if [ "$status" -eq 1 ] && [ "$(files "$dir/kept")" = 'one.i ' ] && grep -q 'broken\.c:[23]:.*error' "$dir/said" &&
+    grep -q 'no_such_header' "$dir/said" && grep -q '2 of the sources refused' "$dir/said"; then
+    right "what $compiler refuses is passed on, and the folder stays as it was"
+  else
+    wrong "what $compiler refuses: status $status"
+  fi
+}
+
 for compiler in gcc clang; do
   command -v "$compiler" >/dev/null || {
     echo "own check: nothing is preprocessed with $compiler, which isn't installed"
     continue
   }
-  for folder in examples/*/; do
-    folder=${folder%/}
-    set -- "$folder"/*.c
-    [ -e "$1" ] || continue
-    rm -rf "$dir/out"
-    if CC=$compiler tools/preprocess.sh "$@" --out "$dir/out" > "$dir/said" 2>&1 &&
-      for text in "$dir"/out/*.i; do "$compiler" -std=c99 -fsyntax-only -x cpp-output "$text" || exit 1; done > "$dir/said" 2>&1 &&
-      [ "$(ls "$dir/out" | wc -l)" -eq $# ] && ! grep -n -F "$top" "$dir"/out/*.i > "$dir/said"; then
-      echo "own check: $folder: preprocessed, and $compiler accepts the text"
-    else
-      failed=$((failed + 1))
-      echo "own check: FAILED: $folder, preprocessed with $compiler:"
-      cat "$dir/said"
-    fi
-  done
+  rm -rf "${dir:?}"/*
+  examples
+  sources_that_are_gone
+  headers_of_ones_own
+  carriage_returns
+  refusals
 done
 [ "$failed" -eq 0 ]

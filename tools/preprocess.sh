@@ -1,18 +1,27 @@
 #!/bin/sh
 # Preprocesses an application's C sources for the checker, against the stub headers of include/:
 #
-#   tools/preprocess.sh APP_SOURCES.. --out FOLDER
+#   tools/preprocess.sh APP_SOURCES.. --out FOLDER [--headers FOLDER].. [-IFOLDER] [-DNAME=VALUE] ..
 #
-# Each source NAME.c becomes FOLDER/NAME.i. Words that begin with - go to the preprocessor, as -Iboard or -DLED=5. It is
-# $CC, or gcc where that isn't set; the compiler's own headers and predefined macros are left out. Line markers name a
-# source as it is named here, and the stub headers as include/.. wherever the checker stands.
+# Each source NAME.c becomes FOLDER/NAME.i. The compiler is $CC, or gcc where that isn't set; its own headers and predefined
+# macros are left out. Headers are looked for in the folders of --headers, then in include/, then in those of -I. Words that
+# begin with - go to the preprocessor.
+#
+# The compiler is shown each text first. Where it refuses a source, its messages are passed on, the status is 1, and the
+# folder stays as it was. Else the texts go into the folder, and those that an earlier run made there of sources that aren't
+# named any more are removed: FOLDER/.preprocessed lists what was made, each with its checksum, so that no file of another
+# origin is removed, and none that was changed since.
+#
+# Line markers name a source as it is named here, and the stub headers as include/.. wherever the checker stands. Carriage
+# returns at the ends of lines are taken out. Status 2 is for wrong words.
 set -eu
 usage() {
-  echo 'usage: tools/preprocess.sh APP_SOURCES.. --out FOLDER [-IFOLDER] [-DNAME=VALUE] ..' >&2
+  echo 'usage: tools/preprocess.sh APP_SOURCES.. --out FOLDER [--headers FOLDER].. [-IFOLDER] [-DNAME=VALUE] ..' >&2
   exit 2
 }
 RTCHECK_INCLUDE=$(cd "$(dirname "$0")/.." && pwd)/include
 export RTCHECK_INCLUDE
+compiler=${CC:-gcc}
 
 out=
 left=$#
@@ -21,9 +30,9 @@ while [ "$left" -gt 0 ]; do
   shift
   left=$((left - 1))
   case $word in
-    --out)
+    --out | --headers)
       [ "$left" -gt 0 ] || usage
-      out=$1
+      if [ "$word" = --out ]; then out=$1; else set -- "$@" "--headers=$1"; fi
       shift
       left=$((left - 1))
       ;;
@@ -36,37 +45,78 @@ while [ "$left" -gt 0 ]; do
   esac
 done
 [ -n "$out" ] || usage
-mkdir -p "$out"
-text=$(mktemp)
-trap 'rm -f "$text"' EXIT
+command -v "$compiler" >/dev/null || { echo "preprocess.sh: there is no compiler $compiler; name one by CC" >&2; exit 1; }
+work=$(mktemp -d)
+trap 'rm -rf "$work"' EXIT
+mkdir "$work/texts"
+made=$out/.preprocessed
+
+# int and pointers have 32 bits for the checker too
+bits=-m32
+"$compiler" "$bits" -fsyntax-only -x c /dev/null 2>/dev/null || bits=-w
 
 preprocess() { # preprocess SOURCE WORD..: what the preprocessor makes of the source, with those words that begin with -
   source=$1
   shift
   left=$#
+  for word in "$@"; do
+    case $word in --headers=*) set -- "$@" "-I${word#--headers=}" ;; esac
+  done
+  set -- "$@" "-I$RTCHECK_INCLUDE"
   while [ "$left" -gt 0 ]; do
     word=$1
     shift
     left=$((left - 1))
-    case $word in -*) set -- "$@" "$word" ;; esac
+    case $word in
+      --headers=*) ;;
+      -*) set -- "$@" "$word" ;;
+    esac
   done
-  "${CC:-gcc}" -E -std=c99 -undef -nostdinc -I "$RTCHECK_INCLUDE" "$@" -x c "$source"
+  "$compiler" -E -std=c99 -undef -nostdinc "$@" -x c "$source"
+}
+accepts() { # accepts TEXT: the compiler takes the text as C; else it says why
+  "$compiler" "$bits" -std=c99 -w -funsigned-char -fno-builtin -fsyntax-only -x cpp-output "$1"
 }
 
-made=:
+failed=0 names=:
 for source in "$@"; do
   case $source in -*) continue ;; esac
   name=$(basename "$source" .c).i
-  case $made in
+  case $names in
     *:"$name":*)
       echo "preprocess.sh: two sources would become $name" >&2
       exit 1
       ;;
   esac
-  made=$made$name:
-  preprocess "$source" "$@" > "$text"
-  awk 'BEGIN { long = ENVIRON["RTCHECK_INCLUDE"] "/" }
-    substr($0, 1, 1) == "#" && (at = index($0, "\"" long)) { $0 = substr($0, 1, at) "include/" substr($0, at + 1 + length(long)) }
-    { print }' "$text" > "$out/$name"
+  names=$names$name:
+  if preprocess "$source" "$@" > "$work/text"; then
+    awk 'BEGIN { long = ENVIRON["RTCHECK_INCLUDE"] "/" }
+      { sub(/\r+$/, "") }
+      substr($0, 1, 1) == "#" && (at = index($0, "\"" long)) { $0 = substr($0, 1, at) "include/" substr($0, at + 1 + length(long)) }
+      { print }' "$work/text" > "$work/texts/$name"
+    accepts "$work/texts/$name" || failed=$((failed + 1))
+  else
+    failed=$((failed + 1))
+  fi
 done
-[ "$made" != : ] || usage
+[ "$names" != : ] || usage
+[ "$failed" -eq 0 ] || { echo "preprocess.sh: $failed of the sources refused; $out is as it was" >&2; exit 1; }
+
+# what an earlier run made and this one doesn't
+mkdir -p "$out"
+[ ! -e "$made" ] || while read -r sum size name; do
+  case $name in */*) continue ;; esac
+  if [ -f "$out/$name" ] && [ ! -e "$work/texts/$name" ] && [ "$(cksum < "$out/$name")" = "$sum $size" ]; then
+    rm "$out/$name"
+  fi
+done < "$made"
+
+for text in "$work"/texts/*.i; do
+  cp "$text" "$out/"
+  echo "$(cksum < "$text") $(basename "$text")"
+done > "$work/made"
+cp "$work/made" "$made"
+for text in "$out"/*.i; do
+  [ -e "$work/texts/$(basename "$text")" ] ||
+    echo "preprocess.sh: $text is of no source that was named, and wasn't made here or was changed since; it is checked too" >&2
+done

@@ -1,13 +1,17 @@
--- A tree before some tokens and more is written as it is before the first of them, and then the others.
+-- A tree before some tokens and more is written as it is before the first of them, and then the others. Crates above
+-- may
+-- cite these equations.
 use Rattle.std.proofs.Common.{◌≡◌, List, [], ◌∷◌, ◌++◌, Option, Some, None, refl, ap}
 use Rattle.ck_base.specs.declared.tokens.Token.{Token}
-use Rattle.ck_grammar.specs.Trees.{Expr, Operands, Suffixes, Specifiers, Members, Declarators, Declarator, Dims, Params,
-    MoreParams, Enumerators, Name, Constant, Strings, Paren, Postfix, Unary, SizeofType, Cast, Chain, Conditional,
-    Assignment, NoOperands, Operand, NoSuffixes, Index, CallEmpty, Call, MemberAccess, PostIncrement, NoSpecifiers,
-    Word, TypedefName, Tagged, Struct, Enum, NoMembers, Member, NoDeclarators, Also, Abstract, Named, Nested, NoDims,
-    Open, Sized, Function, NoParams, VoidParams, Parameters, NoMore, Ellipsis, More, LastOne, LastValued, One, Valued}
-use Rattle.ck_grammar.specs.Written.{written, operands, suffixes, specifiers, members, declarators, declarator, dims,
-    params, more_params, enumerators, optional}
+use Rattle.ck_grammar.specs.Trees.{Expr, Operands, Suffixes, Specifiers, Members, Declarators, Declarator, Dims, Params}
+use Rattle.ck_grammar.specs.Trees.{MoreParams, Enumerators, Name, Constant, Strings, Paren, Postfix, Unary, SizeofType}
+use Rattle.ck_grammar.specs.Trees.{Cast, Chain, Conditional, Assignment, NoOperands, Operand, NoSuffixes, Index}
+use Rattle.ck_grammar.specs.Trees.{CallEmpty, Call, MemberAccess, PostIncrement, NoSpecifiers, Word, TypedefName}
+use Rattle.ck_grammar.specs.Trees.{Tagged, Struct, Enum, NoMembers, Member, NoDeclarators, Also, Abstract, Named}
+use Rattle.ck_grammar.specs.Trees.{Nested, NoDims, Open, Sized, Function, NoParams, VoidParams, Parameters, NoMore}
+use Rattle.ck_grammar.specs.Trees.{Ellipsis, More, LastOne, LastValued, One, Valued}
+use Rattle.ck_grammar.specs.Written.{written, operands, suffixes, specifiers, members, declarators, declarator, dims}
+use Rattle.ck_grammar.specs.Written.{params, more_params, enumerators, optional}
 
 append_appended : (ts us more : List Token) → (ts ++ (us ++ more)) ≡ ((ts ++ us) ++ more)
 append_appended [] us more = refl
@@ -29,13 +33,19 @@ mutual
   written_appended (SizeofType k o s d c) us more =
       rw (declarator_appended d (c ∷ us) more, specifiers_appended s (declarator d (c ∷ us)) more) refl
   written_appended (Cast o s d c e) us more =
-      rw (written_appended e us more, declarator_appended d (c ∷ written e us) more,
-      specifiers_appended s (declarator d (c ∷ written e us)) more) refl
+      rw (
+        written_appended e us more,
+        declarator_appended d (c ∷ written e us) more,
+        specifiers_appended s (declarator d (c ∷ written e us)) more,
+      ) refl
   written_appended (Chain e ops) us more = rw (operands_appended ops us more, written_appended e (operands ops us) more)
       refl
   written_appended (Conditional e q a c b) us more =
-      rw (written_appended b us more, written_appended a (c ∷ written b us) more,
-      written_appended e (q ∷ written a (c ∷ written b us)) more) refl
+      rw (
+        written_appended b us more,
+        written_appended a (c ∷ written b us) more,
+        written_appended e (q ∷ written a (c ∷ written b us)) more,
+      ) refl
   written_appended (Assignment e op b) us more =
       rw (written_appended b us more, written_appended e (op ∷ written b us) more) refl
 
@@ -50,8 +60,11 @@ mutual
       rw (suffixes_appended rest us more, written_appended e (c ∷ suffixes rest us) more) refl
   suffixes_appended (CallEmpty o c rest) us more = rw (suffixes_appended rest us more) refl
   suffixes_appended (Call o e ops c rest) us more =
-      rw (suffixes_appended rest us more, operands_appended ops (c ∷ suffixes rest us) more,
-      written_appended e (operands ops (c ∷ suffixes rest us)) more) refl
+      rw (
+        suffixes_appended rest us more,
+        operands_appended ops (c ∷ suffixes rest us) more,
+        written_appended e (operands ops (c ∷ suffixes rest us)) more,
+      ) refl
   suffixes_appended (MemberAccess t n rest) us more = rw (suffixes_appended rest us more) refl
   suffixes_appended (PostIncrement t rest) us more = rw (suffixes_appended rest us more) refl
 
@@ -62,18 +75,27 @@ mutual
   specifiers_appended (TypedefName t rest) us more = rw (specifiers_appended rest us more) refl
   specifiers_appended (Tagged k t rest) us more = rw (specifiers_appended rest us more) refl
   specifiers_appended (Struct k tag o m c rest) us more =
-      rw (specifiers_appended rest us more, members_appended m (c ∷ specifiers rest us) more,
-      optional_appended tag (o ∷ members m (c ∷ specifiers rest us)) more) refl
+      rw (
+        specifiers_appended rest us more,
+        members_appended m (c ∷ specifiers rest us) more,
+        optional_appended tag (o ∷ members m (c ∷ specifiers rest us)) more,
+      ) refl
   specifiers_appended (Enum k tag o m c rest) us more =
-      rw (specifiers_appended rest us more, enumerators_appended m (c ∷ specifiers rest us) more,
-      optional_appended tag (o ∷ enumerators m (c ∷ specifiers rest us)) more) refl
+      rw (
+        specifiers_appended rest us more,
+        enumerators_appended m (c ∷ specifiers rest us) more,
+        optional_appended tag (o ∷ enumerators m (c ∷ specifiers rest us)) more,
+      ) refl
 
   pub members_appended : (x : Members) (us more : List Token) → members x (us ++ more) ≡ (members x us ++ more)
   members_appended NoMembers us more = refl
   members_appended (Member s d ds semicolon rest) us more =
-      rw (members_appended rest us more, declarators_appended ds (semicolon ∷ members rest us) more,
-      declarator_appended d (declarators ds (semicolon ∷ members rest us)) more,
-      specifiers_appended s (declarator d (declarators ds (semicolon ∷ members rest us))) more) refl
+      rw (
+        members_appended rest us more,
+        declarators_appended ds (semicolon ∷ members rest us) more,
+        declarator_appended d (declarators ds (semicolon ∷ members rest us)) more,
+        specifiers_appended s (declarator d (declarators ds (semicolon ∷ members rest us))) more,
+      ) refl
 
   pub declarators_appended : (x : Declarators) (us more : List Token) → declarators x
       (us ++ more) ≡ (declarators x us ++ more)
@@ -88,8 +110,11 @@ mutual
   declarator_appended (Named stars t ds) us more =
       rw (dims_appended ds us more, append_appended stars (t ∷ dims ds us) more) refl
   declarator_appended (Nested stars o d c ds) us more =
-      rw (dims_appended ds us more, declarator_appended d (c ∷ dims ds us) more,
-      append_appended stars (o ∷ declarator d (c ∷ dims ds us)) more) refl
+      rw (
+        dims_appended ds us more,
+        declarator_appended d (c ∷ dims ds us) more,
+        append_appended stars (o ∷ declarator d (c ∷ dims ds us)) more,
+      ) refl
 
   pub dims_appended : (x : Dims) (us more : List Token) → dims x (us ++ more) ≡ (dims x us ++ more)
   dims_appended NoDims us more = refl
@@ -103,16 +128,22 @@ mutual
   params_appended NoParams us more = refl
   params_appended (VoidParams t) us more = refl
   params_appended (Parameters s d rest) us more =
-      rw (more_params_appended rest us more, declarator_appended d (more_params rest us) more,
-      specifiers_appended s (declarator d (more_params rest us)) more) refl
+      rw (
+        more_params_appended rest us more,
+        declarator_appended d (more_params rest us) more,
+        specifiers_appended s (declarator d (more_params rest us)) more,
+      ) refl
 
   pub more_params_appended : (x : MoreParams) (us more : List Token) → more_params x
       (us ++ more) ≡ (more_params x us ++ more)
   more_params_appended NoMore us more = refl
   more_params_appended (Ellipsis comma dots) us more = refl
   more_params_appended (More comma s d rest) us more =
-      rw (more_params_appended rest us more, declarator_appended d (more_params rest us) more,
-      specifiers_appended s (declarator d (more_params rest us)) more) refl
+      rw (
+        more_params_appended rest us more,
+        declarator_appended d (more_params rest us) more,
+        specifiers_appended s (declarator d (more_params rest us)) more,
+      ) refl
 
   pub enumerators_appended : (x : Enumerators) (us more : List Token) → enumerators x
       (us ++ more) ≡ (enumerators x us ++ more)

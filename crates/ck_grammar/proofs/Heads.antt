@@ -3,14 +3,13 @@ use Rattle.std.proofs.Common.{◌≡◌, ℕ, Bool, true, false, ◌&&◌, List,
 use Rattle.std.proofs.lemmas.Bool.{false≢true}
 use Rattle.ck_base.specs.declared.tokens.Token.{Token}
 use Rattle.ck_grammar.specs.Fitting.{Fits, takes, is_tight, is_primary, is_unary}
-use Rattle.ck_grammar.specs.ReadingExpressions.{begins_lead, begins_operand, opens_type, is_paren}
-use Rattle.ck_grammar.specs.Words.{Word, Ordinary, Typedef, Number, String, Fixed, Sort, Storage, Qualifier, Inline,
-    TypeWord, StructWord, EnumWord, Plain, TypeName, Star, RoundMark, SquareMark, CurlyMark, CloseMark, Other, sort,
-    sort_by, begins_type, begins_specifiers, Lead, NameLead, ConstantLead, StringLead, ParenLead, StepLead,
-    OperatorLead, SizeofLead, NoLead, lead, lead_by}
+use Rattle.ck_grammar.specs.ReadingExpressions.{begins_operand, opens_type, is_paren}
+use Rattle.ck_grammar.specs.Trees.{Expr, Name, Constant, Strings, Paren, Postfix, Unary, SizeofType, Cast, Chain}
+use Rattle.ck_grammar.specs.Trees.{Conditional, Assignment}
+use Rattle.ck_grammar.specs.Words.{begins_lead, Word, Typedef, Fixed, Sort, Qualifier, TypeWord, StructWord, EnumWord}
+use Rattle.ck_grammar.specs.Words.{TypeName, sort, sort_by, begins_type, begins_specifiers, Lead, ParenLead, NoLead}
+use Rattle.ck_grammar.specs.Words.{lead, lead_by}
 use Rattle.ck_grammar.specs.Written.{written, operands, suffixes, specifiers, declarator}
-use Rattle.ck_grammar.specs.Trees.{Expr, Name, Constant, Strings, Paren, Postfix, Unary, SizeofType, Cast, Chain,
-    Conditional, Assignment}
 
 takes_begins : (l : Lead) (e : Expr) (f : Expr → Bool) → takes l e f ≡ true → begins_lead l ≡ true
 takes_begins NoLead e f h = h

@@ -1,20 +1,21 @@
--- What an expression and a declaration begin with is no label: no name with a colon behind it (C99 6.8.1).
+-- What an expression and a declaration begin with is no label: no name with a colon after it (C99 6.8.1).
 use Rattle.std.proofs.Common.{◌≡◌, ℕ, Bool, true, false, List, ◌∷◌, refl}
 use Rattle.std.specs.Prelude.{codes}
 use Rattle.std.proofs.lemmas.Bool.{false≢true}
 use Rattle.ck_base.specs.declared.tokens.Token.{Token}
 use Rattle.ck_grammar.proofs.Texts.{other_word}
-use Rattle.ck_grammar.specs.Fitting.{Fits, FitsOperands, FitsSuffixes, FitsEach, takes, is_tight, is_specifier_word,
-    is_tag_word}
-use Rattle.ck_grammar.specs.ReadingStatements.{comes, is_label}
-use Rattle.ck_grammar.specs.Specified.{Place, stand_together, is_text}
-use Rattle.ck_grammar.specs.Trees as trees
-use Rattle.ck_grammar.specs.Trees.{Expr, Operands, Suffixes, Specifiers, Declarator, Name, Constant, Strings, Paren,
-    Postfix, Unary, SizeofType, Cast, Chain, Conditional, Assignment, NoOperands, Operand, NoSuffixes, Index, CallEmpty,
-    Call, MemberAccess, PostIncrement, NoSpecifiers, TypedefName, Tagged, Struct, Enum, Abstract, Named, Nested}
-use Rattle.ck_grammar.specs.Words.{Word, Ordinary, Typedef, Number, String, Fixed, is_identifier, sort, Follow, Nothing,
-    follow, lead}
+use Rattle.ck_grammar.specs.Fitting.{Fits, FitsOperands, FitsSuffixes, FitsEach, takes, is_tight, is_specifier_word}
+use Rattle.ck_grammar.specs.Fitting.{is_tag_word}
+use Rattle.ck_grammar.specs.Readers.{is_at}
+use Rattle.ck_grammar.specs.ReadingStatements.{is_label}
+use Rattle.ck_grammar.specs.Specified.{Place, go_together}
+use Rattle.ck_grammar.specs.Trees.{Expr, Operands, Suffixes, Specifiers, Declarator, Name, Constant, Strings, Paren}
+use Rattle.ck_grammar.specs.Trees.{Postfix, Unary, SizeofType, Cast, Chain, Conditional, Assignment, NoOperands}
+use Rattle.ck_grammar.specs.Trees.{Operand, NoSuffixes, Index, CallEmpty, Call, MemberAccess, PostIncrement}
+use Rattle.ck_grammar.specs.Trees.{NoSpecifiers, TypedefName, Tagged, Struct, Enum, Abstract, Named, Nested}
+use Rattle.ck_grammar.specs.Words.{is_text, Word, Ordinary, Typedef, is_identifier, sort, Follow, Nothing, follow, lead}
 use Rattle.ck_grammar.specs.Written.{written, operands, suffixes, specifiers}
+use Rattle.ck_grammar.specs.Trees as trees
 
 -- what binds to an expression before it
 abbrev binds : Follow → Bool
@@ -25,12 +26,12 @@ no_colon : (word : Word) → binds (follow word) ≡ true → is_text (codes ":"
 no_colon word h = other_word (λ x. binds (follow x)) word (codes ":") h refl
 
 operands_no_colon : (w : Token → Word) (k : ℕ) (ops : Operands) (more : List Token) → FitsOperands w k ops
-    → comes w (codes ":") more ≡ false → comes w (codes ":") (operands ops more) ≡ false
+    → is_at w ":" more ≡ false → is_at w ":" (operands ops more) ≡ false
 operands_no_colon w k NoOperands more h none = none
 operands_no_colon w k (Operand op e rest) more h none = no_colon (w op) (rw h.0 refl)
 
 suffixes_no_colon : (w : Token → Word) (s : Suffixes) (more : List Token) → FitsSuffixes w s
-    → comes w (codes ":") more ≡ false → comes w (codes ":") (suffixes s more) ≡ false
+    → is_at w ":" more ≡ false → is_at w ":" (suffixes s more) ≡ false
 suffixes_no_colon w NoSuffixes more h none = none
 suffixes_no_colon w (MemberAccess t n rest) more h none = no_colon (w t) (rw h.0 refl)
 suffixes_no_colon w (PostIncrement t rest) more h none = no_colon (w t) (rw h.0 refl)
@@ -41,9 +42,9 @@ takes_no_name Ordinary e f h = absurd (false≢true h)
 takes_no_name Typedef e f h = absurd (false≢true h)
 takes_no_name _ e f h = refl
 
--- an expression is no label where no colon stands behind it
+-- an expression is no label where no colon is after it
 pub expression_no_label : (w : Token → Word) (e : Expr) (more : List Token) → Fits w e
-    → comes w (codes ":") more ≡ false → is_label w (written e more) ≡ false
+    → is_at w ":" more ≡ false → is_label w (written e more) ≡ false
 expression_no_label w (Name t) more h none = rw h none
 expression_no_label w (Constant t) more h none = rw h refl
 expression_no_label w (Postfix e s) more h none = expression_no_label w e (suffixes s more) h.1
@@ -74,7 +75,7 @@ tag_no_colon : (word : Word) → is_tag_word (sort word) ≡ true → is_text (c
 tag_no_colon word h = other_word (λ x. is_tag_word (sort x)) word (codes ":") h refl
 
 specifiers_no_colon : (w : Token → Word) (seen : Bool) (s : Specifiers) (more : List Token) → FitsEach w seen s
-    → comes w (codes ":") more ≡ false → comes w (codes ":") (specifiers s more) ≡ false
+    → is_at w ":" more ≡ false → is_at w ":" (specifiers s more) ≡ false
 specifiers_no_colon w seen NoSpecifiers more h none = none
 specifiers_no_colon w seen (trees.Word t rest) more h none = word_no_colon (w t) h.0
 specifiers_no_colon w seen (TypedefName t rest) more h none = rw h.0 refl
@@ -82,9 +83,9 @@ specifiers_no_colon w seen (Tagged k t rest) more h none = tag_no_colon (w k) h.
 specifiers_no_colon w seen (Struct k tag o m c rest) more h none = tag_no_colon (w k) (rw h.0 refl)
 specifiers_no_colon w seen (Enum k tag o m c rest) more h none = tag_no_colon (w k) (rw h.0 refl)
 
--- specifiers are no label where no colon stands behind them
+-- specifiers are no label where no colon is after them
 pub specifiers_no_label : (w : Token → Word) (place : Place) (s : Specifiers) (more : List Token) → FitsEach w false s
-    → stand_together place w s ≡ true → comes w (codes ":") more ≡ false → is_label w (specifiers s more) ≡ false
+    → go_together w place s ≡ true → is_at w ":" more ≡ false → is_label w (specifiers s more) ≡ false
 specifiers_no_label w place NoSpecifiers more h good none = absurd (false≢true good)
 specifiers_no_label w place (trees.Word t rest) more h good none = rw (word_no_name (w t) h.0) refl
 specifiers_no_label w place (TypedefName t rest) more h good none = rw h.0

@@ -1,13 +1,15 @@
--- What is written with more behind it is at least as long.
+-- What is written with more after it is at least as long.
 use Rattle.std.proofs.Common.{◌≤◌, List, [], ◌∷◌, ◌++◌, length, Option, Some, None, arith}
 use Rattle.ck_base.specs.declared.tokens.Token.{Token}
-use Rattle.ck_grammar.specs.Written.{written, operands, suffixes, specifiers, members, declarators, declarator, dims,
-    params, more_params, enumerators, optional}
-use Rattle.ck_grammar.specs.Trees.{Expr, Operands, Suffixes, Specifiers, Members, Declarators, Declarator, Dims, Params,
-    MoreParams, Enumerators, Name, Constant, Strings, Paren, Postfix, Unary, SizeofType, Cast, Chain, Conditional,
-    Assignment, NoOperands, Operand, NoSuffixes, Index, CallEmpty, Call, MemberAccess, PostIncrement, NoSpecifiers,
-    Word, TypedefName, Tagged, Struct, Enum, NoMembers, Member, NoDeclarators, Also, Abstract, Named, Nested, NoDims,
-    Open, Sized, Function, NoParams, VoidParams, Parameters, NoMore, Ellipsis, More, LastOne, LastValued, One, Valued}
+use Rattle.ck_grammar.specs.Trees.{Expr, Operands, Suffixes, Specifiers, Members, Declarators, Declarator, Dims, Params}
+use Rattle.ck_grammar.specs.Trees.{MoreParams, Enumerators, Name, Constant, Strings, Paren, Postfix, Unary, SizeofType}
+use Rattle.ck_grammar.specs.Trees.{Cast, Chain, Conditional, Assignment, NoOperands, Operand, NoSuffixes, Index}
+use Rattle.ck_grammar.specs.Trees.{CallEmpty, Call, MemberAccess, PostIncrement, NoSpecifiers, Word, TypedefName}
+use Rattle.ck_grammar.specs.Trees.{Tagged, Struct, Enum, NoMembers, Member, NoDeclarators, Also, Abstract, Named}
+use Rattle.ck_grammar.specs.Trees.{Nested, NoDims, Open, Sized, Function, NoParams, VoidParams, Parameters, NoMore}
+use Rattle.ck_grammar.specs.Trees.{Ellipsis, More, LastOne, LastValued, One, Valued}
+use Rattle.ck_grammar.specs.Written.{written, operands, suffixes, specifiers, members, declarators, declarator, dims}
+use Rattle.ck_grammar.specs.Written.{params, more_params, enumerators, optional}
 
 pub longer_append : (ts more : List Token) → length more ≤ length (ts ++ more)
 longer_append [] more = omega arith
@@ -28,8 +30,12 @@ mutual
   longer (SizeofType k o s d c) more =
       omega (arith, longer_specifiers s (declarator d (c ∷ more)), longer_declarator d (c ∷ more))
   longer (Cast o s d c e) more =
-      omega (arith, longer_specifiers s (declarator d (c ∷ written e more)), longer_declarator d (c ∷ written e more),
-      longer e more)
+      omega (
+        arith,
+        longer_specifiers s (declarator d (c ∷ written e more)),
+        longer_declarator d (c ∷ written e more),
+        longer e more,
+      )
   longer (Chain e ops) more = omega (arith, longer e (operands ops more), longer_operands ops more)
   longer (Conditional e q a c b) more =
       omega (arith, longer e (q ∷ written a (c ∷ written b more)), longer a (c ∷ written b more), longer b more)
@@ -44,8 +50,12 @@ mutual
   longer_suffixes (Index o e c rest) more = omega (arith, longer e (c ∷ suffixes rest more), longer_suffixes rest more)
   longer_suffixes (CallEmpty o c rest) more = omega (arith, longer_suffixes rest more)
   longer_suffixes (Call o e ops c rest) more =
-      omega (arith, longer e (operands ops (c ∷ suffixes rest more)), longer_operands ops (c ∷ suffixes rest more),
-      longer_suffixes rest more)
+      omega (
+        arith,
+        longer e (operands ops (c ∷ suffixes rest more)),
+        longer_operands ops (c ∷ suffixes rest more),
+        longer_suffixes rest more,
+      )
   longer_suffixes (MemberAccess t n rest) more = omega (arith, longer_suffixes rest more)
   longer_suffixes (PostIncrement t rest) more = omega (arith, longer_suffixes rest more)
 
@@ -55,18 +65,30 @@ mutual
   longer_specifiers (TypedefName t rest) more = omega (arith, longer_specifiers rest more)
   longer_specifiers (Tagged k t rest) more = omega (arith, longer_specifiers rest more)
   longer_specifiers (Struct k tag o m c rest) more =
-      omega (arith, longer_optional tag (o ∷ members m (c ∷ specifiers rest more)),
-      longer_members m (c ∷ specifiers rest more), longer_specifiers rest more)
+      omega (
+        arith,
+        longer_optional tag (o ∷ members m (c ∷ specifiers rest more)),
+        longer_members m (c ∷ specifiers rest more),
+        longer_specifiers rest more,
+      )
   longer_specifiers (Enum k tag o m c rest) more =
-      omega (arith, longer_optional tag (o ∷ enumerators m (c ∷ specifiers rest more)),
-      longer_enumerators m (c ∷ specifiers rest more), longer_specifiers rest more)
+      omega (
+        arith,
+        longer_optional tag (o ∷ enumerators m (c ∷ specifiers rest more)),
+        longer_enumerators m (c ∷ specifiers rest more),
+        longer_specifiers rest more,
+      )
 
   pub longer_members : (m : Members) (more : List Token) → length more ≤ length (members m more)
   longer_members NoMembers more = omega arith
   longer_members (Member s d ds semicolon rest) more =
-      omega (arith, longer_specifiers s (declarator d (declarators ds (semicolon ∷ members rest more))),
-      longer_declarator d (declarators ds (semicolon ∷ members rest more)),
-      longer_declarators ds (semicolon ∷ members rest more), longer_members rest more)
+      omega (
+        arith,
+        longer_specifiers s (declarator d (declarators ds (semicolon ∷ members rest more))),
+        longer_declarator d (declarators ds (semicolon ∷ members rest more)),
+        longer_declarators ds (semicolon ∷ members rest more),
+        longer_members rest more,
+      )
 
   pub longer_declarators : (ds : Declarators) (more : List Token) → length more ≤ length (declarators ds more)
   longer_declarators NoDeclarators more = omega arith
@@ -77,8 +99,12 @@ mutual
   longer_declarator (Abstract stars ds) more = omega (arith, longer_append stars (dims ds more), longer_dims ds more)
   longer_declarator (Named stars t ds) more = omega (arith, longer_append stars (t ∷ dims ds more), longer_dims ds more)
   longer_declarator (Nested stars o d c ds) more =
-      omega (arith, longer_append stars (o ∷ declarator d (c ∷ dims ds more)), longer_declarator d (c ∷ dims ds more),
-      longer_dims ds more)
+      omega (
+        arith,
+        longer_append stars (o ∷ declarator d (c ∷ dims ds more)),
+        longer_declarator d (c ∷ dims ds more),
+        longer_dims ds more,
+      )
 
   pub longer_dims : (ds : Dims) (more : List Token) → length more ≤ length (dims ds more)
   longer_dims NoDims more = omega arith
@@ -90,15 +116,23 @@ mutual
   longer_params NoParams more = omega arith
   longer_params (VoidParams t) more = omega arith
   longer_params (Parameters s d rest) more =
-      omega (arith, longer_specifiers s (declarator d (more_params rest more)),
-      longer_declarator d (more_params rest more), longer_more_params rest more)
+      omega (
+        arith,
+        longer_specifiers s (declarator d (more_params rest more)),
+        longer_declarator d (more_params rest more),
+        longer_more_params rest more,
+      )
 
   pub longer_more_params : (p : MoreParams) (more : List Token) → length more ≤ length (more_params p more)
   longer_more_params NoMore more = omega arith
   longer_more_params (Ellipsis comma dots) more = omega arith
   longer_more_params (More comma s d rest) more =
-      omega (arith, longer_specifiers s (declarator d (more_params rest more)),
-      longer_declarator d (more_params rest more), longer_more_params rest more)
+      omega (
+        arith,
+        longer_specifiers s (declarator d (more_params rest more)),
+        longer_declarator d (more_params rest more),
+        longer_more_params rest more,
+      )
 
   pub longer_enumerators : (m : Enumerators) (more : List Token) → length more ≤ length (enumerators m more)
   longer_enumerators (LastOne t comma) more = omega (arith, longer_optional comma more)

@@ -4,17 +4,15 @@ use Rattle.std.proofs.lemmas.Bool.{false≢true}
 use Rattle.std.proofs.lemmas.Bool.Decides.{nat_tests}
 use Rattle.ck_base.specs.declared.tokens.Token.{Token}
 use Rattle.ck_grammar.proofs.Stops.{differ}
-use Rattle.ck_grammar.specs.Fitting.{Fits, is_chain_level, chain_level, looseness, is_unary, takes, is_tight}
-use Rattle.ck_grammar.specs.Trees.{Expr, Operands, NoOperands, Operand, Name, Constant, Strings, Paren, Postfix, Unary,
-    SizeofType, Cast, Chain, Conditional, Assignment}
+use Rattle.ck_grammar.specs.Fitting.{Fits, is_chain_level, chain_level, precedence, is_unary, takes, is_tight}
 use Rattle.ck_grammar.specs.ReadingExpressions.{has_operand}
-use Rattle.ck_grammar.specs.Words.{Word, Lead, NameLead, ConstantLead, StringLead, ParenLead, StepLead, OperatorLead,
-    SizeofLead, NoLead}
+use Rattle.ck_grammar.specs.Trees.{Expr, Operands, NoOperands, Operand, Chain, Conditional, Assignment}
+use Rattle.ck_grammar.specs.Words.{Word, Lead, StepLead, OperatorLead, SizeofLead}
 
 chain_bound : (k : ℕ) → is_chain_level k ≡ true → k ≤ 13
 chain_bound k h = grind (arith, nat_tests)
 
-pub loosest : (w : Token → Word) (e : Expr) → Fits w e → looseness w e ≤ 13
+pub loosest : (w : Token → Word) (e : Expr) → Fits w e → precedence w e ≤ 13
 loosest w (Chain e ops) h = chain_bound (chain_level w ops) h.0
 loosest w _ h = omega arith
 
@@ -33,7 +31,7 @@ chain_has_operand w (Operand op e rest) h = refl
 pub chain_not_tight : (k : ℕ) → is_chain_level k ≡ true → k ≤ 0 → ⊥
 chain_not_tight k h le = let e : k ≡ 0 = omega (arith, le) in false≢true (rw e at h)
 
-pub unary_is_tight : (w : Token → Word) (e : Expr) → is_unary e ≡ true → looseness w e ≤ 0
+pub unary_is_tight : (w : Token → Word) (e : Expr) → is_unary e ≡ true → precedence w e ≤ 0
 unary_is_tight w (Chain e ops) h = absurd (false≢true h)
 unary_is_tight w (Conditional e q a c b) h = absurd (false≢true h)
 unary_is_tight w (Assignment e op b) h = absurd (false≢true h)
@@ -43,8 +41,8 @@ tight : (a : ℕ) → nat_eq a 0 ≡ true → a ≤ 0
 tight a h = grind (arith, nat_tests)
 
 -- what a prefix takes is tight
-pub taken_is_tight : (w : Token → Word) (l : Lead) (e : Expr) → takes l e (is_tight w) ≡ true → looseness w e ≤ 0
+pub taken_is_tight : (w : Token → Word) (l : Lead) (e : Expr) → takes l e (is_tight w) ≡ true → precedence w e ≤ 0
 taken_is_tight w StepLead e h = unary_is_tight w e h
-taken_is_tight w OperatorLead e h = tight (looseness w e) h
+taken_is_tight w OperatorLead e h = tight (precedence w e) h
 taken_is_tight w SizeofLead e h = unary_is_tight w e h
 taken_is_tight w _ e h = absurd (false≢true h)

@@ -1,7 +1,7 @@
 -- No tokens have two longest expressions at the front.
 use Rattle.std.proofs.Common.{◌≡◌, List, [], ◌∷◌, ◌++◌, length, refl, sym, ap, ◌∙◌, arith}
 use Rattle.ck_base.specs.declared.tokens.Token.{Token}
-use Rattle.ck_grammar.proofs.AllRead.{one_tree}
+use Rattle.ck_grammar.proofs.ExpressionsComplete.{one_tree}
 use Rattle.ck_grammar.proofs.Appended.{written_appended}
 use Rattle.ck_grammar.proofs.Lengths.{longer_append}
 use Rattle.ck_grammar.specs.Answers.{OneLongest}
@@ -20,7 +20,7 @@ others_of (t ∷ ts) = ts
 longer_rest : (ts rest more : List Token) (t : Token) → rest ≡ (t ∷ (ts ++ more)) → length rest ≡ length more → ⊥
 longer_rest ts rest more t same lengths = omega (arith, ap length same, lengths, longer_append ts more)
 
--- what stands before rests of one length is one
+-- what is before rests of one length is one
 same_front : (ts us rest more : List Token) → (ts ++ rest) ≡ (us ++ more) → length rest ≡ length more → (ts ≡ us)
     × (rest ≡ more)
 same_front [] [] rest more same lengths = (refl, same)
@@ -33,8 +33,9 @@ same_front (t ∷ ts) (u ∷ us) rest more same lengths =
 pub one_longest : OneLongest
 one_longest bytes typedefs tokens e f rest more h k =
     let same : (written e [] ++ rest) ≡ (written f [] ++ more) = sym (written_appended e [] rest) ∙ h.begins.tokens_are
-        ∙ sym k.begins.tokens_are ∙ written_appended f [] more in
+    ∙ sym k.begins.tokens_are ∙ written_appended f [] more in
     let lengths : length rest ≡ length more = omega (arith, h.longest f more k.begins, k.longest e rest h.begins) in
-    let both = same_front (written e []) (written f []) rest more same lengths in
-    (one_tree (word_of bytes typedefs) most e f h.begins.fits k.begins.fits h.begins.nests k.begins.nests both.0,
-        both.1)
+    let both = same_front (written e []) (written f []) rest more same lengths in (
+      one_tree (word_of bytes typedefs) most e f h.begins.fits k.begins.fits h.begins.nests k.begins.nests both.0,
+      both.1,
+    )

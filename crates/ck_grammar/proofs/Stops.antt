@@ -3,22 +3,27 @@ use Rattle.std.proofs.Common.{◌≡◌, ℕ, ◌≤◌, ◌<◌, true, false, L
 use Rattle.std.specs.Prelude.{codes}
 use Rattle.std.proofs.lemmas.Bool.Decides.{nat_tests}
 use Rattle.ck_base.specs.declared.tokens.Token.{Token}
-use Rattle.ck_grammar.specs.Fitting.{Fits, chain_level_of, looseness}
+use Rattle.ck_grammar.specs.Fitting.{Fits, operator_level, precedence}
 use Rattle.ck_grammar.specs.Nesting.{nesting}
 use Rattle.ck_grammar.specs.Readers.{Reader}
 use Rattle.ck_grammar.specs.Trees.{Expr}
-use Rattle.ck_grammar.specs.Words.{Word, Fixed, Follow, Bracket, Parenthesis, Point, Steps, Neighbour, Operator,
-    Nothing, follow, level}
+use Rattle.ck_grammar.specs.Words.{Word, Fixed, Follow, Operator, Nothing, follow}
 use Rattle.ck_grammar.specs.Written.{written}
+
+-- how loosely it binds to what is before it; 14 is not at all
+abbrev pub looseness : Follow → ℕ
+looseness (Operator k) = k
+looseness Nothing = 14
+looseness _ = 0
 
 -- the first of these tokens binds more loosely than the level
 abbrev pub StopsAt : (Token → Word) → ℕ → List Token → Type 0
 StopsAt w j [] = Unit {0}
-StopsAt w j (t ∷ ts) = j < level (follow (w t))
+StopsAt w j (t ∷ ts) = j < looseness (follow (w t))
 
 -- the reader reads each expression of the level that nests so deep, before tokens at which the level stops
 abbrev pub ReadsAt : (Token → Word) → ℕ → ℕ → Reader Expr → Type 0
-ReadsAt w n j q = (e : Expr) (more : List Token) → Fits w e → nesting e ≤ n → looseness w e ≤ j → StopsAt w j more
+ReadsAt w n j q = (e : Expr) (more : List Token) → Fits w e → nesting e ≤ n → precedence w e ≤ j → StopsAt w j more
     → q (written e more) ≡ Some (e, more)
 
 abbrev pub Exact : (Token → Word) → ℕ → (ℕ → Reader Expr) → Type 0
@@ -35,12 +40,12 @@ pub differ : (a b : ℕ) → (a ≡ b → ⊥) → nat_eq a b ≡ false
 differ a b h = grind (arith, nat_tests)
 
 -- a token that binds more loosely is no operator of the level
-pub no_operator : (x : Follow) (k : ℕ) → 1 ≤ k → k < level x → nat_eq (chain_level_of x) k ≡ false
+pub no_operator : (x : Follow) (k : ℕ) → 1 ≤ k → k < looseness x → nat_eq (operator_level x) k ≡ false
 no_operator (Operator m) k one lt = differ m k (λ e. omega (arith, one, lt, e))
 no_operator Nothing k one lt = differ 0 k (λ e. omega (arith, one, lt, e))
 no_operator _ k one lt = differ 0 k (λ e. omega (arith, one, lt))
 
--- the marks behind an expression that nothing binds to
+-- the marks after an expression that nothing binds to
 pub at_round : (w : Token → Word) (c : Token) (ts : List Token) (j : ℕ) → j ≤ 13 → w c ≡ Fixed (codes ")")
     → StopsAt w j (c ∷ ts)
 at_round w c ts j le h = rw h (omega (arith, le))

@@ -3,22 +3,23 @@ use Rattle.std.proofs.Common.{◌≡◌, Bool, true, false, not, ◌&&◌, ◌||
 use Rattle.std.specs.Prelude.{codes}
 use Rattle.std.proofs.lemmas.Bool.{false≢true}
 use Rattle.ck_base.specs.declared.tokens.Token.{Token}
-use Rattle.ck_grammar.specs.Fitting.{FitsEach, FitsDeclarator, FitsDims, FitsParams, Naming, NewName, MemberName,
-    MaybeName, NoName, may_be_abstract, may_name, is_written, is_star, is_specifier_word, is_tag_word, is_ordinary}
-use Rattle.ck_grammar.specs.ReadingTypes.{begins_with, begins_params, is_close}
-use Rattle.ck_grammar.specs.Words.{begins_specifiers}
+use Rattle.ck_grammar.specs.Fitting.{FitsEach, FitsDeclarator, FitsDims, FitsParams, Naming, NewName, MemberName}
+use Rattle.ck_grammar.specs.Fitting.{MaybeName, NoName, may_be_abstract, may_name, is_written, is_star}
+use Rattle.ck_grammar.specs.Fitting.{is_specifier_word, is_tag_word, is_ordinary}
 use Rattle.ck_grammar.specs.ReadingExpressions.{opens_type}
-use Rattle.ck_grammar.specs.Specified.{Place, InType, InParameter, stand_together, has_one_type, storage_fits,
-    some_word, is_storage, is_inline}
-use Rattle.ck_grammar.specs.Trees as trees
-use Rattle.ck_grammar.specs.Trees.{Specifiers, Declarator, Dims, Params, NoSpecifiers, TypedefName, Tagged, Struct,
-    Enum, Abstract, Named, Nested, NoDims, Open, Sized, Function, NoParams, VoidParams, Parameters}
-use Rattle.ck_grammar.specs.Words.{Word, Ordinary, Typedef, Number, String, Fixed, sort, begins_type, Sort, Storage,
-    Qualifier, Inline, TypeWord, StructWord, EnumWord, Plain, TypeName, Star, RoundMark, SquareMark, CurlyMark,
-    CloseMark, Other}
+use Rattle.ck_grammar.specs.ReadingTypes.{begins_with, begins_params, is_close}
+use Rattle.ck_grammar.specs.Specified.{Place, InType, InParameter, go_together, has_one_type, storage_fits, some_word}
+use Rattle.ck_grammar.specs.Specified.{is_storage, is_inline}
+use Rattle.ck_grammar.specs.Trees.{Specifiers, Declarator, Dims, Params, NoSpecifiers, TypedefName, Tagged, Struct}
+use Rattle.ck_grammar.specs.Trees.{Enum, Abstract, Named, Nested, NoDims, Open, Sized, Function, NoParams, VoidParams}
+use Rattle.ck_grammar.specs.Trees.{Parameters}
+use Rattle.ck_grammar.specs.Words.{begins_specifiers, Word, Ordinary, Typedef, Number, String, Fixed, sort, begins_type}
+use Rattle.ck_grammar.specs.Words.{Sort, Storage, Qualifier, Inline, TypeWord, StructWord, EnumWord, Plain, TypeName}
+use Rattle.ck_grammar.specs.Words.{Star, RoundMark, SquareMark, CurlyMark, CloseMark, Other}
 use Rattle.ck_grammar.specs.Written.{specifiers, declarator, dims, params}
+use Rattle.ck_grammar.specs.Trees as trees
 
--- what may come behind a declarator: no part of one
+-- what may come after a declarator: no part of one
 abbrev pub ends : Sort → Bool
 ends Other = true
 ends CurlyMark = true
@@ -29,7 +30,7 @@ abbrev pub StopsDeclarator : (Token → Word) → List Token → Type 0
 StopsDeclarator w [] = Unit {0}
 StopsDeclarator w (t ∷ ts) = ends (sort (w t)) ≡ true
 
--- what may come behind specifiers that have a type: no specifier and no body
+-- what may come after specifiers that have a type: no specifier and no body
 abbrev pub ends_specifiers : Sort → Bool
 ends_specifiers Plain = true
 ends_specifiers TypeName = true
@@ -44,7 +45,7 @@ abbrev pub StopsSpecifiers : (Token → Word) → List Token → Type 0
 StopsSpecifiers w [] = Unit {0}
 StopsSpecifiers w (t ∷ ts) = ends_specifiers (sort (w t)) ≡ true
 
--- a declarator ends at the marks behind it; a body's opening mark apart, specifiers do too
+-- a declarator ends at the marks after it; a body's opening mark apart, specifiers do too
 abbrev pub ends_both : Sort → Bool
 ends_both Other = true
 ends_both CloseMark = true
@@ -161,16 +162,16 @@ tag_begins _ h = h
 
 -- what begins with a type name in parentheses shows it
 pub type_opens : (w : Token → Word) (o : Token) (s : Specifiers) (more : List Token) → w o ≡ Fixed (codes "(")
-    → FitsEach w false s → stand_together InType w s ≡ true → opens_type w (o ∷ specifiers s more) ≡ true
+    → FitsEach w false s → go_together w InType s ≡ true → opens_type w (o ∷ specifiers s more) ≡ true
 type_opens w o NoSpecifiers more h fits good = absurd (false≢true good)
 type_opens w o (trees.Word t rest) more h fits good =
-    let storage = and_right (has_one_type w (trees.Word t rest)) (storage_fits InType w (trees.Word t rest)) good in
-    let none = not_or (is_storage (sort (w t))) (some_word is_storage w rest)
-        (and_left (not (some_word is_storage w (trees.Word t rest))) (not (some_word is_inline w (trees.Word t rest)))
-        storage) in
-    let no_inline = not_or (is_inline (sort (w t))) (some_word is_inline w rest)
-        (and_right (not (some_word is_storage w (trees.Word t rest))) (not (some_word is_inline w (trees.Word t rest)))
-        storage) in
+    let storage = and_right (has_one_type w (trees.Word t rest)) (storage_fits w InType (trees.Word t rest)) good in
+    let none = not_or (is_storage (sort (w t))) (some_word w is_storage rest)
+    (and_left (not (some_word w is_storage (trees.Word t rest))) (not (some_word w is_inline (trees.Word t rest)))
+    storage) in
+    let no_inline = not_or (is_inline (sort (w t))) (some_word w is_inline rest)
+    (and_right (not (some_word w is_storage (trees.Word t rest))) (not (some_word w is_inline (trees.Word t rest)))
+    storage) in
     let begun : begins_type (sort (w t)) ≡ true = word_begins (sort (w t)) fits.0 none no_inline in
     rw (h, begun) refl
 type_opens w o (Tagged k t rest) more h fits good = let begun : begins_type (sort (w k)) ≡ true =
@@ -199,7 +200,7 @@ tag_starts _ h = refl
 
 -- specifiers that stand together begin as specifiers do
 pub specifiers_begin : (w : Token → Word) (place : Place) (s : Specifiers) (more : List Token) → FitsEach w false s
-    → stand_together place w s ≡ true → begins_with w begins_specifiers (specifiers s more) ≡ true
+    → go_together w place s ≡ true → begins_with w begins_specifiers (specifiers s more) ≡ true
 specifiers_begin w place NoSpecifiers more fits good = absurd (false≢true good)
 specifiers_begin w place (trees.Word t rest) more fits good = word_starts (sort (w t)) fits.0
 specifiers_begin w place (TypedefName t rest) more fits good = rw fits.0 refl

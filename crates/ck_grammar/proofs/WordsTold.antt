@@ -1,24 +1,34 @@
--- What it tells of a word how it begins an operand or a statement, follows an expression or stands in a declaration.
-use Rattle.std.proofs.Common.{◌≡◌, ℕ, suc, ◌≤◌, Bool, true, false, ◌||◌, cond, List, [], ◌∷◌, nat_eq, refl, ap, arith,
-    ◌⊎◌, inl, inr}
+-- What it tells of a word how it begins an operand or a statement, follows an expression or is in a declaration.
+use Rattle.std.proofs.Common.{◌≡◌, ℕ, ◌≤◌, Bool, true, false, ◌||◌, cond, List, [], ◌∷◌, nat_eq, refl, ap, arith, ◌⊎◌}
+use Rattle.std.proofs.Common.{inl, inr}
 use Rattle.std.specs.Prelude.{codes}
 use Rattle.std.specs.Str.{bytes_eq}
 use Rattle.std.proofs.lemmas.Bool.{false≢true}
 use Rattle.std.proofs.lemmas.Bool.Decides.{nat_tests}
 use Rattle.std.proofs.lemmas.Slice.Eq.{bytes_eq-Decides}
-use Rattle.ck_grammar.specs.Fitting.{chain_level_of}
-use Rattle.ck_grammar.specs.Phrases.{Phrase, NamePhrase, BlockPhrase, ClosePhrase, EmptyPhrase, IfPhrase, ElsePhrase,
-    SwitchPhrase, WhilePhrase, DoPhrase, ForPhrase, CasePhrase, DefaultPhrase, GotoPhrase, LeavePhrase, ReturnPhrase,
-    OtherPhrase, phrase}
+use Rattle.ck_grammar.specs.Fitting.{operator_level}
+use Rattle.ck_grammar.specs.Phrases.{Phrase, NamePhrase, BlockPhrase, ClosePhrase, EmptyPhrase, IfPhrase, ElsePhrase}
+use Rattle.ck_grammar.specs.Phrases.{SwitchPhrase, WhilePhrase, DoPhrase, ForPhrase, CasePhrase, DefaultPhrase}
+use Rattle.ck_grammar.specs.Phrases.{GotoPhrase, JumpPhrase, ReturnPhrase, OtherPhrase, phrase}
 use Rattle.ck_grammar.specs.ReadingExpressions.{is_string}
-use Rattle.ck_grammar.specs.StatementsFitting.{IsLeave}
-use Rattle.ck_grammar.specs.Words.{Word, is_identifier, Ordinary, Typedef, Number, String, Fixed, is_one_of, Sort,
-    Storage, Qualifier, Inline, TypeWord, StructWord, EnumWord, Plain, TypeName, Star, RoundMark, SquareMark, CurlyMark,
-    CloseMark, Other, sort, Lead, NameLead, ConstantLead, StringLead, ParenLead, StepLead, OperatorLead, SizeofLead,
-    NoLead, lead, Follow, Bracket, Parenthesis, Point, Steps, Neighbour, Operator, Nothing, follow, level_in, operators}
+use Rattle.ck_grammar.specs.StatementsFitting.{IsJump}
+use Rattle.ck_grammar.specs.Words.{Word, is_identifier, Ordinary, Typedef, Number, String, Fixed, is_one_of, Sort}
+use Rattle.ck_grammar.specs.Words.{Storage, Qualifier, Inline, TypeWord, StructWord, EnumWord, TypeName, Star}
+use Rattle.ck_grammar.specs.Words.{RoundMark, SquareMark, CurlyMark, CloseMark, Other, sort, Lead, NameLead}
+use Rattle.ck_grammar.specs.Words.{ConstantLead, StringLead, ParenLead, StepLead, OperatorLead, SizeofLead, NoLead}
+use Rattle.ck_grammar.specs.Words.{lead, Follow, Bracket, Parenthesis, Point, Steps, Operator, follow, operator_in}
+use Rattle.ck_grammar.specs.Words.{operators}
 
 same_text : (text other : List ℕ) → bytes_eq text other ≡ true → Fixed text ≡ Fixed other
 same_text text other h = ap Fixed ((bytes_eq-Decides text other).0 h)
+
+or_false_true : (b : Bool) → (b || false) ≡ true → b ≡ true
+or_false_true true h = refl
+or_false_true false h = h
+
+-- the one word of a line
+one_text : (text other : List ℕ) → is_one_of (other ∷ []) text ≡ true → Fixed text ≡ Fixed other
+one_text text other h = same_text text other (or_false_true (bytes_eq text other) h)
 
 abbrev pub LeadTells : Word → Lead → Type 0
 LeadTells word NameLead = word ≡ Ordinary
@@ -31,7 +41,7 @@ LeadTells word _ = Unit {0}
 lead_chain : (text : List ℕ) (a b c d e : Bool) → (b ≡ true → Fixed text ≡ Fixed (codes "("))
     → (e ≡ true → Fixed text ≡ Fixed (codes "sizeof"))
     → LeadTells (Fixed text)
-        (cond a NoLead (cond b ParenLead (cond c StepLead (cond d OperatorLead (cond e SizeofLead NoLead)))))
+    (cond a NoLead (cond b ParenLead (cond c StepLead (cond d OperatorLead (cond e SizeofLead NoLead)))))
 lead_chain text true b c d e first second = tt
 lead_chain text false true c d e first second = first refl
 lead_chain text false false true d e first second = tt
@@ -41,7 +51,7 @@ lead_chain text false false false false false first second = tt
 
 pub lead_tells : (word : Word) → LeadTells word (lead word)
 lead_tells Typedef = tt
-lead_tells (Fixed text) = lead_chain text _ _ _ _ _ (same_text text (codes "(")) (same_text text (codes "sizeof"))
+lead_tells (Fixed text) = lead_chain text _ _ _ _ _ (one_text text (codes "(")) (one_text text (codes "sizeof"))
 lead_tells _ = refl
 
 abbrev pub FollowTells : Word → Follow → Type 0
@@ -55,40 +65,54 @@ level_step : (word : Word) (b : Bool) (k : ℕ) (x : Follow) → (b ≡ true →
 level_step word true k x first h = first refl
 level_step word false k x first h = h
 
--- `?` alone is at the level 11
-abbrev QuestionAlone : List (List (List ℕ)) → ℕ → Type 0
-QuestionAlone [] k = Unit {0}
-QuestionAlone (texts ∷ table) k = (k ≡ 11 → texts ≡ (codes "?" ∷ [])) × QuestionAlone table (suc k)
-
-or_false_true : (b : Bool) → (b || false) ≡ true → b ≡ true
-or_false_true true h = refl
-or_false_true false h = h
+-- `?` alone is at the level of conditional expressions
+abbrev QuestionAlone : List (ℕ × List (List ℕ)) → Type 0
+QuestionAlone [] = Unit {0}
+QuestionAlone (row ∷ rows) = (row.0 ≡ 11 → row.1 ≡ (codes "?" ∷ [])) × QuestionAlone rows
 
 question_text : (texts : List (List ℕ)) (text : List ℕ) → texts ≡ (codes "?" ∷ []) → is_one_of texts text ≡ true
     → Fixed text ≡ Fixed (codes "?")
-question_text texts text alone h =
-    same_text text (codes "?") (or_false_true (bytes_eq text (codes "?")) (rw alone at h))
+question_text texts text alone h = one_text text (codes "?") (rw alone at h)
 
-level_tells : (table : List (List (List ℕ))) (k : ℕ) (text : List ℕ) → QuestionAlone table k
-    → FollowTells (Fixed text) (level_in table k text)
-level_tells [] k text alone = tt
-level_tells (texts ∷ table) k text alone =
-    level_step (Fixed text) (is_one_of texts text) k (level_in table (suc k) text)
-        (λ h e. question_text texts text (alone.0 e) h) (level_tells table (suc k) text alone.1)
+level_tells : (rows : List (ℕ × List (List ℕ))) (text : List ℕ) → QuestionAlone rows
+    → FollowTells (Fixed text) (operator_in rows text)
+level_tells [] text alone = tt
+level_tells (row ∷ rows) text alone =
+    level_step (Fixed text) (is_one_of row.1 text) row.0 (operator_in rows text)
+    (λ h e. question_text row.1 text (alone.0 e) h) (level_tells rows text alone.1)
 
-question_alone : QuestionAlone operators 1
-question_alone =
-    (λ e. absurd (omega (arith, e)),
-    (λ e. absurd (omega (arith, e)),
-    (λ e. absurd (omega (arith, e)),
-    (λ e. absurd (omega (arith, e)),
-    (λ e. absurd (omega (arith, e)),
-    (λ e. absurd (omega (arith, e)),
-    (λ e. absurd (omega (arith, e)),
-    (λ e. absurd (omega (arith, e)),
-    (λ e. absurd (omega (arith, e)),
-    (λ e. absurd (omega (arith, e)),
-    (λ e. refl, (λ e. absurd (omega (arith, e)), (λ e. absurd (omega (arith, e)), tt)))))))))))))
+question_alone : QuestionAlone operators
+question_alone = (
+  λ e. absurd (omega (arith, e)),
+  (
+    λ e. absurd (omega (arith, e)),
+    (
+      λ e. absurd (omega (arith, e)),
+      (
+        λ e. absurd (omega (arith, e)),
+        (
+          λ e. absurd (omega (arith, e)),
+          (
+            λ e. absurd (omega (arith, e)),
+            (
+              λ e. absurd (omega (arith, e)),
+              (
+                λ e. absurd (omega (arith, e)),
+                (
+                  λ e. absurd (omega (arith, e)),
+                  (
+                    λ e. absurd (omega (arith, e)),
+                    (λ e. refl, (λ e. absurd (omega (arith, e)), (λ e. absurd (omega (arith, e)), tt))),
+                  ),
+                ),
+              ),
+            ),
+          ),
+        ),
+      ),
+    ),
+  ),
+)
 
 follow_chain : (text : List ℕ) (a b c d : Bool) (x : Follow) → (a ≡ true → Fixed text ≡ Fixed (codes "["))
     → (b ≡ true → Fixed text ≡ Fixed (codes "(")) → FollowTells (Fixed text) x
@@ -100,8 +124,8 @@ follow_chain text false false false true x first second h = tt
 follow_chain text false false false false x first second h = h
 
 pub follow_tells : (word : Word) → FollowTells word (follow word)
-follow_tells (Fixed text) = follow_chain text _ _ _ _ (level_in operators 1 text) (same_text text (codes "["))
-    (same_text text (codes "(")) (level_tells operators 1 text question_alone)
+follow_tells (Fixed text) = follow_chain text _ _ _ _ (operator_in operators text) (one_text text (codes "["))
+    (one_text text (codes "(")) (level_tells operators text question_alone)
 follow_tells _ = tt
 
 abbrev pub SortTells : Word → Sort → Type 0
@@ -113,13 +137,13 @@ SortTells word _ = Unit {0}
 sort_chain : (text : List ℕ) (a b c d e f g h i j k : Bool) → (h ≡ true → Fixed text ≡ Fixed (codes "("))
     → (i ≡ true → Fixed text ≡ Fixed (codes "["))
     → SortTells (Fixed text)
-        (cond a Storage
-        (cond b Qualifier
-        (cond c Inline
-        (cond d TypeWord
-        (cond e StructWord
-        (cond f EnumWord
-        (cond g Star (cond h RoundMark (cond i SquareMark (cond j CurlyMark (cond k CloseMark Other)))))))))))
+    (cond a Storage
+    (cond b Qualifier
+    (cond c Inline
+    (cond d TypeWord
+    (cond e StructWord
+    (cond f EnumWord
+    (cond g Star (cond h RoundMark (cond i SquareMark (cond j CurlyMark (cond k CloseMark Other)))))))))))
 sort_chain text true b c d e f g h i j k first second = tt
 sort_chain text false true c d e f g h i j k first second = tt
 sort_chain text false false true d e f g h i j k first second = tt
@@ -135,8 +159,8 @@ sort_chain text false false false false false false false false false false fals
 
 pub sort_tells : (word : Word) → SortTells word (sort word)
 sort_tells Typedef = refl
-sort_tells (Fixed text) = sort_chain text _ _ _ _ _ _ _ _ _ _ _ (same_text text (codes "("))
-    (same_text text (codes "["))
+sort_tells (Fixed text) = sort_chain text _ _ _ _ _ _ _ _ _ _ _ (one_text text (codes "("))
+    (one_text text (codes "["))
 sort_tells _ = tt
 
 pub string_tells : (word : Word) → is_string word ≡ true → word ≡ String
@@ -147,7 +171,7 @@ pub equal : (a b : ℕ) → nat_eq a b ≡ true → a ≡ b
 equal a b h = grind (arith, nat_tests)
 
 -- a level tells the operator
-pub operator_tells : (x : Follow) (k : ℕ) → 1 ≤ k → nat_eq (chain_level_of x) k ≡ true → x ≡ Operator k
+pub operator_tells : (x : Follow) (k : ℕ) → 1 ≤ k → nat_eq (operator_level x) k ≡ true → x ≡ Operator k
 operator_tells (Operator m) k one h = ap Operator (equal m k h)
 operator_tells _ k one h = absurd (omega (arith, one, equal 0 k h))
 
@@ -170,30 +194,30 @@ PhraseTells word ForPhrase = word ≡ Fixed (codes "for")
 PhraseTells word CasePhrase = word ≡ Fixed (codes "case")
 PhraseTells word DefaultPhrase = word ≡ Fixed (codes "default")
 PhraseTells word GotoPhrase = word ≡ Fixed (codes "goto")
-PhraseTells word LeavePhrase = IsLeave word
+PhraseTells word JumpPhrase = IsJump word
 PhraseTells word ReturnPhrase = word ≡ Fixed (codes "return")
 PhraseTells word _ = Unit {0}
 
 phrase_chain : (text : List ℕ) (a b c d e f g h i j k l m n o : Bool)
     → (b ≡ true → Fixed text ≡ Fixed (codes "{")) → (d ≡ true → Fixed text ≡ Fixed (codes ";"))
-        → (e ≡ true → Fixed text ≡ Fixed (codes "if")) → (g ≡ true → Fixed text ≡ Fixed (codes "switch"))
-        → (h ≡ true → Fixed text ≡ Fixed (codes "while")) → (i ≡ true → Fixed text ≡ Fixed (codes "do"))
-        → (j ≡ true → Fixed text ≡ Fixed (codes "for")) → (k ≡ true → Fixed text ≡ Fixed (codes "case"))
-        → (l ≡ true → Fixed text ≡ Fixed (codes "default")) → (m ≡ true → Fixed text ≡ Fixed (codes "goto"))
-        → (n ≡ true → IsLeave (Fixed text)) → (o ≡ true → Fixed text ≡ Fixed (codes "return"))
+    → (e ≡ true → Fixed text ≡ Fixed (codes "if")) → (g ≡ true → Fixed text ≡ Fixed (codes "switch"))
+    → (h ≡ true → Fixed text ≡ Fixed (codes "while")) → (i ≡ true → Fixed text ≡ Fixed (codes "do"))
+    → (j ≡ true → Fixed text ≡ Fixed (codes "for")) → (k ≡ true → Fixed text ≡ Fixed (codes "case"))
+    → (l ≡ true → Fixed text ≡ Fixed (codes "default")) → (m ≡ true → Fixed text ≡ Fixed (codes "goto"))
+    → (n ≡ true → IsJump (Fixed text)) → (o ≡ true → Fixed text ≡ Fixed (codes "return"))
     → PhraseTells (Fixed text)
-        (cond a OtherPhrase
-        (cond b BlockPhrase
-        (cond c ClosePhrase
-        (cond d EmptyPhrase
-        (cond e IfPhrase
-        (cond f ElsePhrase
-        (cond g SwitchPhrase
-        (cond h WhilePhrase
-        (cond i DoPhrase
-        (cond j ForPhrase
-        (cond k CasePhrase
-        (cond l DefaultPhrase (cond m GotoPhrase (cond n LeavePhrase (cond o ReturnPhrase OtherPhrase)))))))))))))))
+    (cond a OtherPhrase
+    (cond b BlockPhrase
+    (cond c ClosePhrase
+    (cond d EmptyPhrase
+    (cond e IfPhrase
+    (cond f ElsePhrase
+    (cond g SwitchPhrase
+    (cond h WhilePhrase
+    (cond i DoPhrase
+    (cond j ForPhrase
+    (cond k CasePhrase
+    (cond l DefaultPhrase (cond m GotoPhrase (cond n JumpPhrase (cond o ReturnPhrase OtherPhrase)))))))))))))))
 phrase_chain text true b c d e f g h i j k l m n o block empty if_ switch while_ do_ for_ case_ default_ goto_ leave
     return_ = tt
 phrase_chain text false true c d e f g h i j k l m n o block empty if_ switch while_ do_ for_ case_ default_ goto_ leave
@@ -231,7 +255,7 @@ or_cases : (a b : Bool) → (a || b) ≡ true → (a ≡ true) ⊎ (b ≡ true)
 or_cases true b h = inl refl
 or_cases false b h = inr h
 
-leave_text : (text : List ℕ) → is_one_of (codes "break" ∷ codes "continue" ∷ []) text ≡ true → IsLeave (Fixed text)
+leave_text : (text : List ℕ) → is_one_of (codes "break" ∷ codes "continue" ∷ []) text ≡ true → IsJump (Fixed text)
 leave_text text h =
     elim (or_cases (bytes_eq text (codes "break")) (bytes_eq text (codes "continue") || false) h) [
       | inl b ↦ inl (same_text text (codes "break") b)
@@ -244,8 +268,8 @@ phrase_tells Typedef = refl
 phrase_tells Number = tt
 phrase_tells String = tt
 phrase_tells (Fixed text) =
-    phrase_chain text _ _ _ _ _ _ _ _ _ _ _ _ _ _ _ (same_text text (codes "{")) (same_text text (codes ";"))
-        (same_text text (codes "if")) (same_text text (codes "switch")) (same_text text (codes "while"))
-        (same_text text (codes "do")) (same_text text (codes "for")) (same_text text (codes "case"))
-        (same_text text (codes "default")) (same_text text (codes "goto")) (leave_text text)
-        (same_text text (codes "return"))
+    phrase_chain text _ _ _ _ _ _ _ _ _ _ _ _ _ _ _ (one_text text (codes "{")) (one_text text (codes ";"))
+    (one_text text (codes "if")) (one_text text (codes "switch")) (one_text text (codes "while"))
+    (one_text text (codes "do")) (one_text text (codes "for")) (one_text text (codes "case"))
+    (one_text text (codes "default")) (one_text text (codes "goto")) (leave_text text)
+    (one_text text (codes "return"))

@@ -1,24 +1,23 @@
 -- How deep a file may nest (C99 6.9), computed on the definitions.
-use Rattle.std.proofs.Common.{◌≡◌, ℕ, ◌+◌, ◌-◌, length, zero, suc, ◌≤◌, Bool, true, ◌&&◌, ap, List, [], ◌∷◌, refl,
-    arith}
+use Rattle.std.proofs.Common.{◌≡◌, ℕ, ◌+◌, ◌-◌, length, zero, suc, ◌≤◌, Bool, true, ◌&&◌, ap, List, [], ◌∷◌, refl, ◌++◌}
+use Rattle.std.proofs.Common.{arith}
 use Rattle.std.specs.Prelude.{codes}
 use Rattle.std.proofs.lemmas.Bool.{false≢true}
 use Rattle.std.proofs.lemmas.Slice.Eq.{bytes_eq-Decides}
 use Rattle.ck_base.specs.declared.tokens.Token.{Token}
 use Rattle.ck_base.specs.declared.tokens.TokenKind.TheVariants as kinds
-use Rattle.ck_grammar.proofs.FilesRead.{one_tree_file}
+use Rattle.ck_grammar.proofs.FilesComplete.{one_tree_file}
 use Rattle.ck_grammar.proofs.TypeStops.{and_left, and_right}
 use Rattle.ck_grammar.proofs.Worked.{at}
 use Rattle.ck_grammar.specs.Fitting.{Fits}
 use Rattle.ck_grammar.specs.Nesting.{nesting}
-use Rattle.ck_grammar.specs.Specified.{is_text}
 use Rattle.ck_grammar.specs.Spelling.{SpellsFile}
 use Rattle.ck_grammar.specs.Statements.{External, ExpressionStatement, NoBlockItems, StatementItem, FunctionDefinition}
 use Rattle.ck_grammar.specs.StatementsFitting.{FitsFile}
 use Rattle.ck_grammar.specs.StatementsNesting.{file_nesting}
 use Rattle.ck_grammar.specs.StatementsWritten.{file}
 use Rattle.ck_grammar.specs.Trees.{Expr, Constant, Paren, NoSpecifiers, Word, Named, NoDims, Function, VoidParams}
-use Rattle.ck_grammar.specs.Words.{Word as Words, Ordinary, Typedef, Fixed, Number, String, word_of}
+use Rattle.ck_grammar.specs.Words.{is_text, Word as Words, Ordinary, Fixed, Number, word_of}
 
 -- a number in pairs of parentheses, of which these are the tokens
 abbrev in_pairs : List (Token × Token) → Token → Expr
@@ -65,8 +64,8 @@ record AreMain (w : Token → Words) (t : MainTokens) : Type 0 where
 abbrev main_of : MainTokens → List (Token × Token) → List External
 main_of t ps =
     FunctionDefinition (Word t.int_ NoSpecifiers)
-        (Named [] t.name (Function t.open_ (VoidParams t.void_) t.close NoDims)) t.body
-        (StatementItem (ExpressionStatement (in_pairs ps t.number) t.semicolon) NoBlockItems) t.body_end ∷ []
+    (Named [] t.name (Function t.open_ (VoidParams t.void_) t.close NoDims)) t.body
+    (StatementItem (ExpressionStatement (in_pairs ps t.number) t.semicolon) NoBlockItems) t.body_end ∷ []
 
 main_fits : (bytes : List ℕ) (t : MainTokens) (ps : List (Token × Token)) → AreMain (word_of bytes []) t
     → ArePairs (word_of bytes []) ps → FitsFile bytes [] (main_of t ps)
@@ -95,8 +94,8 @@ main_too_deep : (bytes : List ℕ) (t : MainTokens) (ps : List (Token × Token))
     → 198 ≤ length ps → (xs : List External) → SpellsFile xs bytes (file (main_of t ps) []) → ⊥
 main_too_deep bytes t ps main pairs many xs h =
     let same_file : xs ≡ main_of t ps = one_tree_file bytes (length ps + 2) xs (main_of t ps) h.fits
-        (main_fits bytes t ps main pairs) (omega (arith, h.nests, many)) (omega (arith, main_nests t ps))
-        h.tokens_are in
+    (main_fits bytes t ps main pairs) (omega (arith, h.nests, many)) (omega (arith, main_nests t ps))
+    h.tokens_are in
     omega (arith, many, h.nests, ap file_nesting same_file, main_nests t ps)
 
 -- so many pairs, the outer one opened and closed at these bytes and the others inside it
@@ -131,29 +130,51 @@ tests_hold w [] h = tt
 tests_hold w (p ∷ ps) h =
     let a = is_text (codes "(") (w p.0) in
     let b = is_text (codes ")") (w p.1) in
-    let rest = and_right a (b && are_pairs w ps) h in
-    (text_is (codes "(") (w p.0) (and_left a (b && are_pairs w ps) h), text_is (codes ")") (w p.1)
-        (and_left b (are_pairs w ps) rest), tests_hold w ps (and_right b (are_pairs w ps) rest))
+    let rest = and_right a (b && are_pairs w ps) h in (
+      text_is (codes "(") (w p.0) (and_left a (b && are_pairs w ps) h),
+      text_is (codes ")") (w p.1)
+          (and_left b (are_pairs w ps) rest),
+      tests_hold w ps (and_right b (are_pairs w ps) rest),
+    )
 
--- `int main(void) { 0; }` with 100 pairs of parentheses round the 0, and with 201
-abbrev text_100 : List ℕ
-text_100 = codes
-    "int main(void) { ((((((((((((((((((((((((((((((((((((((((((((((((((((((((((((((((((((((((((((((((((((((((((((((((((((0)))))))))))))))))))))))))))))))))))))))))))))))))))))))))))))))))))))))))))))))))))))))))))))))))))); }"
+-- a text so many times before another
+abbrev repeated : ℕ → List ℕ → List ℕ → List ℕ
+repeated zero text more = more
+repeated (suc k) text more = text ++ repeated k text more
 
-abbrev text_201 : List ℕ
-text_201 = codes
-    "int main(void) { (((((((((((((((((((((((((((((((((((((((((((((((((((((((((((((((((((((((((((((((((((((((((((((((((((((((((((((((((((((((((((((((((((((((((((((((((((((((((((((((((((((((((((((((((((((((((((((((((((((((((0))))))))))))))))))))))))))))))))))))))))))))))))))))))))))))))))))))))))))))))))))))))))))))))))))))))))))))))))))))))))))))))))))))))))))))))))))))))))))))))))))))))))))))))))))))))))))))))))))))))))); }"
+-- `int main(void) { 0; }` with so many pairs of parentheses round the 0
+abbrev main_text : ℕ → List ℕ
+main_text k = codes "int main(void) { " ++ repeated k (codes "(") (codes "0" ++ repeated k (codes ")") (codes "; }"))
 
-spelled_100 : SpellsFile (main_of (tokens_at 100) (pairs_at 100 17 217)) text_100
+spelled_100 : SpellsFile (main_of (tokens_at 100) (pairs_at 100 17 217)) (main_text 100)
     (file (main_of (tokens_at 100) (pairs_at 100 17 217)) [])
-spelled_100 = main_spelled text_100 (tokens_at 100) (pairs_at 100 17 217)
-    (record { is_int = refl; is_name = refl; is_open = refl; is_void = refl; is_close = refl; is_body = refl;
-    is_number = refl; is_semicolon = refl; is_body_end = refl })
-    (tests_hold (word_of text_100 []) (pairs_at 100 17 217) refl) (omega arith)
+spelled_100 = main_spelled (main_text 100) (tokens_at 100) (pairs_at 100 17 217)
+    (record {
+      is_int = refl;
+      is_name = refl;
+      is_open = refl;
+      is_void = refl;
+      is_close = refl;
+      is_body = refl;
+      is_number = refl;
+      is_semicolon = refl;
+      is_body_end = refl;
+    })
+    (tests_hold (word_of (main_text 100) []) (pairs_at 100 17 217) refl) (omega arith)
 
-too_deep_201 : (xs : List External) → SpellsFile xs text_201 (file (main_of (tokens_at 201) (pairs_at 201 17 419)) [])
+too_deep_201 : (xs : List External)
+    → SpellsFile xs (main_text 201) (file (main_of (tokens_at 201) (pairs_at 201 17 419)) [])
     → ⊥
-too_deep_201 = main_too_deep text_201 (tokens_at 201) (pairs_at 201 17 419)
-    (record { is_int = refl; is_name = refl; is_open = refl; is_void = refl; is_close = refl; is_body = refl;
-    is_number = refl; is_semicolon = refl; is_body_end = refl })
-    (tests_hold (word_of text_201 []) (pairs_at 201 17 419) refl) (omega arith)
+too_deep_201 = main_too_deep (main_text 201) (tokens_at 201) (pairs_at 201 17 419)
+    (record {
+      is_int = refl;
+      is_name = refl;
+      is_open = refl;
+      is_void = refl;
+      is_close = refl;
+      is_body = refl;
+      is_number = refl;
+      is_semicolon = refl;
+      is_body_end = refl;
+    })
+    (tests_hold (word_of (main_text 201) []) (pairs_at 201 17 419) refl) (omega arith)

@@ -1,50 +1,49 @@
--- Which trees are well formed: each token is the word that its place asks for, and each part binds as tightly as its place
--- asks for (C99 6.5, 6.7). `w` gives the word of a token, so it knows the typedef names.
-use Rattle.std.specs.Prelude.{◌≡◌, ℕ, ◌≤◌, ◌<◌, Bool, true, false, not, ◌&&◌, ◌||◌, List, [], ◌∷◌, Option, Some, None, codes, nat_eq, nat_le}
+-- Which trees are well formed: each token is the word that its place asks for, and each part binds as tightly as its
+-- place asks for (C99 6.5, 6.7). `w` gives the word of a token, so it knows the typedef names.
+use Rattle.std.specs.Prelude.{◌≡◌, ◌≤◌, ◌<◌, Bool, true, false, not, ◌&&◌, ◌||◌, ◌==◌, List, [], ◌∷◌, Option, Some}
+use Rattle.std.specs.Prelude.{None, codes, nat_le}
 use Rattle.ck_base.specs.declared.tokens.Token.{Token}
-use Rattle.ck_grammar.specs.Specified.{InType, InParameter, stand_together, is_text}
+use Rattle.ck_grammar.specs.Levels as level
+use Rattle.ck_grammar.specs.Specified.{Place, InType, InParameter, go_together, is_type_word}
 use Rattle.ck_grammar.specs.Trees as trees
-use Rattle.ck_grammar.specs.Trees.{Expr, Operands, Suffixes, Specifiers, Members, Declarators, Declarator, Dims, Params, MoreParams, Enumerators, Name, Constant, Strings, Paren, Postfix, Unary, SizeofType, Cast, Chain, Conditional, Assignment, NoOperands, Operand, NoSuffixes, Index, CallEmpty, Call, MemberAccess, PostIncrement, NoSpecifiers, TypedefName, Tagged, Struct, Enum, NoMembers, Member, NoDeclarators, Also, Abstract, Named, Nested, NoDims, Open, Sized, Function, NoParams, VoidParams, Parameters, NoMore, Ellipsis, More, LastOne, LastValued, One, Valued}
-use Rattle.ck_grammar.specs.Words.{Word, Ordinary, Typedef, Number, String, Fixed, is_identifier, Sort, Storage, Qualifier, Inline, TypeWord, StructWord, EnumWord, Star, sort, Lead, NameLead, ConstantLead, StringLead, ParenLead, StepLead, OperatorLead, SizeofLead, NoLead, lead, Follow, Bracket, Parenthesis, Point, Steps, Neighbour, Operator, Nothing, follow}
+use Rattle.ck_grammar.specs.Trees.{Expr, Operands, Suffixes, Specifiers, Members, Declarators, Declarator, Dims, Params}
+use Rattle.ck_grammar.specs.Trees.{MoreParams, Enumerators, Name, Constant, Strings, Paren, Postfix, Unary, SizeofType}
+use Rattle.ck_grammar.specs.Trees.{Cast, Chain, Conditional, Assignment, NoOperands, Operand, NoSuffixes, Index}
+use Rattle.ck_grammar.specs.Trees.{CallEmpty, Call, MemberAccess, PostIncrement, NoSpecifiers, TypedefName, Tagged}
+use Rattle.ck_grammar.specs.Trees.{Struct, Enum, NoMembers, Member, NoDeclarators, Also, Abstract, Named, Nested}
+use Rattle.ck_grammar.specs.Trees.{NoDims, Open, Sized, Function, NoParams, VoidParams, Parameters, NoMore, Ellipsis}
+use Rattle.ck_grammar.specs.Trees.{More, LastOne, LastValued, One, Valued}
+use Rattle.ck_grammar.specs.Words.{Word, Ordinary, Typedef, Number, String, Is, is_text, is_identifier, Sort, Storage}
+use Rattle.ck_grammar.specs.Words.{Qualifier, Inline, TypeWord, StructWord, EnumWord, Star, sort, Lead, StepLead}
+use Rattle.ck_grammar.specs.Words.{OperatorLead, SizeofLead, lead, Follow, Point, Steps, Operator, follow}
 
--- the level of a chain: that of its first operator
-abbrev pub chain_level_of : Follow → ℕ
-chain_level_of Bracket = 0
-chain_level_of Parenthesis = 0
-chain_level_of Point = 0
-chain_level_of Steps = 0
-chain_level_of Neighbour = 0
-chain_level_of (Operator k) = k
-chain_level_of Nothing = 0
+-- the level of an operator, and 0 for what is none
+abbrev pub operator_level : Follow → level.Level
+operator_level (Operator k) = k
+operator_level _ = 0
 
-abbrev pub chain_level : (Token → Word) → Operands → ℕ
+-- the level of a chain is that of its first operator
+abbrev pub chain_level : (Token → Word) → Operands → level.Level
 chain_level w NoOperands = 0
-chain_level w (Operand op e rest) = chain_level_of (follow (w op))
+chain_level w (Operand op e rest) = operator_level (follow (w op))
 
--- the levels that are left-associative chains: those from `*` to `||`, and the comma
-abbrev pub is_chain_level : ℕ → Bool
-is_chain_level k = (nat_le 1 k && nat_le k 10) || nat_eq k 13
+-- the levels of left-associative operators, which are chains: those from `*` to `||`, and the comma
+abbrev pub is_chain_level : level.Level → Bool
+is_chain_level k = (nat_le level.multiplicative k && nat_le k level.logical_or) || k == level.comma
 
--- how loosely a tree is bound: the level of its outermost operator, and 0 from primary expressions to casts
-abbrev pub looseness : (Token → Word) → Expr → ℕ
-looseness w (Name t) = 0
-looseness w (Constant t) = 0
-looseness w (Strings t ts) = 0
-looseness w (Paren o e c) = 0
-looseness w (Postfix e s) = 0
-looseness w (Unary op e) = 0
-looseness w (SizeofType k o s d c) = 0
-looseness w (Cast o s d c e) = 0
-looseness w (Chain e ops) = chain_level w ops
-looseness w (Conditional e q a c b) = 11
-looseness w (Assignment e op b) = 12
+-- the level of an expression, which is that of its outermost operator
+abbrev pub precedence : (Token → Word) → Expr → level.Level
+precedence w (Chain e ops) = chain_level w ops
+precedence w (Conditional test question second colon third) = level.conditional
+precedence w (Assignment target op value) = level.assignment
+precedence w _ = level.cast
 
 -- primary expressions (6.5.1)
 abbrev pub is_primary : Expr → Bool
 is_primary (Name t) = true
 is_primary (Constant t) = true
 is_primary (Strings t ts) = true
-is_primary (Paren o e c) = true
+is_primary (Paren opening e closing) = true
 is_primary _ = false
 
 -- unary expressions (6.5.3): the tightest level without the casts
@@ -52,40 +51,18 @@ abbrev pub is_unary : Expr → Bool
 is_unary (Name t) = true
 is_unary (Constant t) = true
 is_unary (Strings t ts) = true
-is_unary (Paren o e c) = true
+is_unary (Paren opening e closing) = true
 is_unary (Postfix e s) = true
 is_unary (Unary op e) = true
-is_unary (SizeofType k o s d c) = true
+is_unary (SizeofType keyword opening s d closing) = true
 is_unary _ = false
 
 -- casts are operands of `&` `*` `+` `-` `~` `!`, unary expressions those of `++` `--` `sizeof` (6.5.3)
 abbrev pub takes : Lead → Expr → (Expr → Bool) → Bool
-takes NameLead e tight = false
-takes ConstantLead e tight = false
-takes StringLead e tight = false
-takes ParenLead e tight = false
 takes StepLead e tight = is_unary e
 takes OperatorLead e tight = tight e
 takes SizeofLead e tight = is_unary e
-takes NoLead e tight = false
-
-abbrev pub is_tight : (Token → Word) → Expr → Bool
-is_tight w e = nat_eq (looseness w e) 0
-
-abbrev pub AreStrings : (Token → Word) → List Token → Type 0
-AreStrings w [] = Unit {0}
-AreStrings w (t ∷ ts) = (w t ≡ String) × AreStrings w ts
-
-abbrev pub IsConstant : Word → Type 0
-IsConstant word = word ≡ Number
-
-abbrev pub IsTag : (Token → Word) → Option Token → Type 0
-IsTag w None = Unit {0}
-IsTag w (Some t) = is_identifier (w t) ≡ true
-
-abbrev pub IsComma : (Token → Word) → Option Token → Type 0
-IsComma w None = Unit {0}
-IsComma w (Some t) = w t ≡ Fixed (codes ",")
+takes _ e tight = false
 
 abbrev pub has_suffix : Suffixes → Bool
 has_suffix NoSuffixes = false
@@ -93,28 +70,10 @@ has_suffix _ = true
 
 abbrev pub has_member : Members → Bool
 has_member NoMembers = false
-has_member (Member s d ds c rest) = true
+has_member (Member s d ds semicolon rest) = true
 
--- pointer stars, each with its qualifiers behind it (6.7.5.1)
-abbrev pub is_star : Sort → Bool
-is_star Star = true
-is_star _ = false
-
-abbrev pub is_pointer_part : Sort → Bool
-is_pointer_part Star = true
-is_pointer_part Qualifier = true
-is_pointer_part _ = false
-
-abbrev pub ArePointerParts : (Token → Word) → List Token → Type 0
-ArePointerParts w [] = Unit {0}
-ArePointerParts w (t ∷ ts) = (is_pointer_part (sort (w t)) ≡ true) × ArePointerParts w ts
-
-abbrev pub IsPointer : (Token → Word) → List Token → Type 0
-IsPointer w [] = Unit {0}
-IsPointer w (t ∷ ts) = (is_star (sort (w t)) ≡ true) × ArePointerParts w ts
-
--- whether a declarator declares a name: a new one, a member (which may be called as a typedef name), a parameter that may do
--- without, none (6.7.5, 6.7.2.1, 6.7.5.3, 6.7.6)
+-- whether a declarator declares a name: a new one, a member (which may be called as a typedef name), a parameter that
+-- may do without, none (6.7.5, 6.7.2.1, 6.7.5.3, 6.7.6)
 pub data Naming : Type 0 where
   NewName : Naming
   MemberName : Naming
@@ -122,10 +81,9 @@ pub data Naming : Type 0 where
   NoName : Naming
 
 abbrev pub may_be_abstract : Naming → Bool
-may_be_abstract NewName = false
-may_be_abstract MemberName = false
 may_be_abstract MaybeName = true
 may_be_abstract NoName = true
+may_be_abstract _ = false
 
 abbrev pub is_ordinary : Word → Bool
 is_ordinary Ordinary = true
@@ -142,7 +100,17 @@ abbrev pub is_written : Declarator → Bool
 is_written (Abstract [] NoDims) = false
 is_written _ = true
 
--- words of specifiers
+-- a pointer is `*`, and more of them and qualifiers after it (6.7.5.1)
+abbrev pub is_star : Sort → Bool
+is_star Star = true
+is_star _ = false
+
+abbrev pub is_pointer_part : Sort → Bool
+is_pointer_part Star = true
+is_pointer_part Qualifier = true
+is_pointer_part _ = false
+
+-- specifiers that are one word (6.7.1 to 6.7.4)
 abbrev pub is_specifier_word : Sort → Bool
 is_specifier_word Storage = true
 is_specifier_word Qualifier = true
@@ -155,90 +123,153 @@ is_tag_word StructWord = true
 is_tag_word EnumWord = true
 is_tag_word _ = false
 
-abbrev pub is_type_sort : Sort → Bool
-is_type_sort TypeWord = true
-is_type_sort _ = false
-
--- a parameter list of one `void` is the empty one (6.7.5.3)
-abbrev pub is_void : (Token → Word) → Specifiers → Bool
-is_void w (trees.Word t NoSpecifiers) = is_text (codes "void") (w t)
-is_void w _ = false
-
 abbrev pub is_end : MoreParams → Bool
 is_end NoMore = true
 is_end _ = false
 
-abbrev pub is_void_alone : (Token → Word) → Specifiers → Declarator → MoreParams → Bool
-is_void_alone w s d rest = is_void w s && not (is_written d) && is_end rest
+module _ (w : Token → Word) where
+  abbrev pub is_tight : Expr → Bool
+  is_tight e = precedence w e == level.cast
 
-abbrev mutual
-  pub Fits : (Token → Word) → Expr → Type 0
-  Fits w (Name t) = w t ≡ Ordinary
-  Fits w (Constant t) = w t ≡ Number
-  Fits w (Strings t ts) = (w t ≡ String) × AreStrings w ts
-  Fits w (Paren o e c) = (w o ≡ Fixed (codes "(")) × Fits w e × (w c ≡ Fixed (codes ")"))
-  Fits w (Postfix e s) = (is_primary e ≡ true) × Fits w e × FitsSuffixes w s × (has_suffix s ≡ true)
-  Fits w (Unary op e) = Fits w e × (takes (lead (w op)) e (is_tight w) ≡ true)
-  Fits w (SizeofType k o s d c) = (w k ≡ Fixed (codes "sizeof")) × (w o ≡ Fixed (codes "(")) × (FitsEach w false s × (stand_together InType w s ≡ true) × FitsDeclarator w NoName d) × (w c ≡ Fixed (codes ")"))
-  Fits w (Cast o s d c e) = (w o ≡ Fixed (codes "(")) × (FitsEach w false s × (stand_together InType w s ≡ true) × FitsDeclarator w NoName d) × (w c ≡ Fixed (codes ")")) × Fits w e × (looseness w e ≡ 0)
-  Fits w (Chain e ops) = (is_chain_level (chain_level w ops) ≡ true) × Fits w e × (looseness w e < chain_level w ops) × FitsOperands w (chain_level w ops) ops
-  Fits w (Conditional e q a c b) = (Fits w e × (looseness w e < 11)) × (w q ≡ Fixed (codes "?")) × Fits w a × (w c ≡ Fixed (codes ":")) × (Fits w b × (looseness w b ≤ 11))
-  Fits w (Assignment e op b) = (Fits w e × (is_unary e ≡ true)) × (follow (w op) ≡ Operator 12) × (Fits w b × (looseness w b ≤ 12))
+  abbrev pub AreStrings : List Token → Type 0
+  AreStrings [] = Unit {0}
+  AreStrings (t ∷ ts) = (w t ≡ String) × AreStrings ts
 
-  -- operators of one level, with operands that bind tighter
-  pub FitsOperands : (Token → Word) → ℕ → Operands → Type 0
-  FitsOperands w k NoOperands = Unit {0}
-  FitsOperands w k (Operand op e rest) = (follow (w op) ≡ Operator k) × Fits w e × (looseness w e < k) × FitsOperands w k rest
+  -- a tag, if there is one
+  abbrev pub IsTag : Option Token → Type 0
+  IsTag None = Unit {0}
+  IsTag (Some t) = is_identifier (w t) ≡ true
 
-  pub FitsSuffixes : (Token → Word) → Suffixes → Type 0
-  FitsSuffixes w NoSuffixes = Unit {0}
-  FitsSuffixes w (Index o e c rest) = (w o ≡ Fixed (codes "[")) × Fits w e × (w c ≡ Fixed (codes "]")) × FitsSuffixes w rest
-  FitsSuffixes w (CallEmpty o c rest) = (w o ≡ Fixed (codes "(")) × (w c ≡ Fixed (codes ")")) × FitsSuffixes w rest
-  FitsSuffixes w (Call o e ops c rest) = (w o ≡ Fixed (codes "(")) × (Fits w e × (looseness w e < 13) × FitsOperands w 13 ops) × (w c ≡ Fixed (codes ")")) × FitsSuffixes w rest
-  FitsSuffixes w (MemberAccess t n rest) = (follow (w t) ≡ Point) × (is_identifier (w n) ≡ true) × FitsSuffixes w rest
-  FitsSuffixes w (PostIncrement t rest) = (follow (w t) ≡ Steps) × FitsSuffixes w rest
+  -- a comma, if there is one
+  abbrev pub IsComma : Option Token → Type 0
+  IsComma None = Unit {0}
+  IsComma (Some t) = Is w t ","
 
-  -- the flag says whether a type stands before these specifiers; then a typedef name is none
-  pub FitsEach : (Token → Word) → Bool → Specifiers → Type 0
-  FitsEach w seen NoSpecifiers = Unit {0}
-  FitsEach w seen (trees.Word t rest) = (is_specifier_word (sort (w t)) ≡ true) × FitsEach w (seen || is_type_sort (sort (w t))) rest
-  FitsEach w seen (TypedefName t rest) = (w t ≡ Typedef) × (seen ≡ false) × FitsEach w true rest
-  FitsEach w seen (Tagged k t rest) = (is_tag_word (sort (w k)) ≡ true) × (is_identifier (w t) ≡ true) × FitsEach w true rest
-  FitsEach w seen (Struct k tag o m c rest) = (sort (w k) ≡ StructWord) × IsTag w tag × (w o ≡ Fixed (codes "{")) × (FitsMembers w m × (has_member m ≡ true)) × (w c ≡ Fixed (codes "}")) × FitsEach w true rest
-  FitsEach w seen (Enum k tag o m c rest) = (sort (w k) ≡ EnumWord) × IsTag w tag × (w o ≡ Fixed (codes "{")) × FitsEnumerators w m × (w c ≡ Fixed (codes "}")) × FitsEach w true rest
+  abbrev pub ArePointerParts : List Token → Type 0
+  ArePointerParts [] = Unit {0}
+  ArePointerParts (t ∷ ts) = (is_pointer_part (sort (w t)) ≡ true) × ArePointerParts ts
 
-  -- the specifiers, the declarators and the `;` of each member
-  pub FitsMembers : (Token → Word) → Members → Type 0
-  FitsMembers w NoMembers = Unit {0}
-  FitsMembers w (Member s d ds semicolon rest) = (FitsEach w false s × (stand_together InType w s ≡ true) × FitsDeclarator w MemberName d) × FitsDeclarators w MemberName ds × (w semicolon ≡ Fixed (codes ";")) × FitsMembers w rest
+  abbrev pub IsPointer : List Token → Type 0
+  IsPointer [] = Unit {0}
+  IsPointer (t ∷ ts) = (is_star (sort (w t)) ≡ true) × ArePointerParts ts
 
-  pub FitsDeclarators : (Token → Word) → Naming → Declarators → Type 0
-  FitsDeclarators w naming NoDeclarators = Unit {0}
-  FitsDeclarators w naming (Also comma d rest) = (w comma ≡ Fixed (codes ",")) × FitsDeclarator w naming d × FitsDeclarators w naming rest
+  -- a parameter list of one `void` is the empty one (6.7.5.3)
+  abbrev pub is_void : Specifiers → Bool
+  is_void (trees.Word t NoSpecifiers) = is_text (codes "void") (w t)
+  is_void _ = false
 
-  pub FitsDeclarator : (Token → Word) → Naming → Declarator → Type 0
-  FitsDeclarator w naming (Abstract stars ds) = (may_be_abstract naming ≡ true) × IsPointer w stars × FitsDims w ds
-  FitsDeclarator w naming (Named stars t ds) = IsPointer w stars × (may_name naming (w t) ≡ true) × FitsDims w ds
-  FitsDeclarator w naming (Nested stars o d c ds) = IsPointer w stars × (w o ≡ Fixed (codes "(")) × (FitsDeclarator w naming d × (is_written d ≡ true)) × (w c ≡ Fixed (codes ")")) × FitsDims w ds
+  abbrev pub is_void_alone : Specifiers → Declarator → MoreParams → Bool
+  is_void_alone s d rest = is_void s && not (is_written d) && is_end rest
 
-  pub FitsDims : (Token → Word) → Dims → Type 0
-  FitsDims w NoDims = Unit {0}
-  FitsDims w (Open o c rest) = (w o ≡ Fixed (codes "[")) × (w c ≡ Fixed (codes "]")) × FitsDims w rest
-  FitsDims w (Sized o e c rest) = (w o ≡ Fixed (codes "[")) × (Fits w e × (looseness w e ≤ 11)) × (w c ≡ Fixed (codes "]")) × FitsDims w rest
-  FitsDims w (Function o p c rest) = (w o ≡ Fixed (codes "(")) × FitsParams w p × (w c ≡ Fixed (codes ")")) × FitsDims w rest
+  -- an expression of this level or a tighter one
+  abbrev pub AtMost : level.Level → Expr → Type 0
+  AtMost k e = precedence w e ≤ k
 
-  pub FitsParams : (Token → Word) → Params → Type 0
-  FitsParams w NoParams = Unit {0}
-  FitsParams w (VoidParams t) = w t ≡ Fixed (codes "void")
-  FitsParams w (Parameters s d rest) = (FitsEach w false s × (stand_together InParameter w s ≡ true) × FitsDeclarator w MaybeName d) × FitsMore w rest × (is_void_alone w s d rest ≡ false)
+  -- specifiers that go together at this place
+  abbrev pub GoTogether : Place → Specifiers → Type 0
+  GoTogether place s = go_together w place s ≡ true
 
-  pub FitsMore : (Token → Word) → MoreParams → Type 0
-  FitsMore w NoMore = Unit {0}
-  FitsMore w (Ellipsis comma dots) = (w comma ≡ Fixed (codes ",")) × (w dots ≡ Fixed (codes "..."))
-  FitsMore w (More comma s d rest) = (w comma ≡ Fixed (codes ",")) × (FitsEach w false s × (stand_together InParameter w s ≡ true) × FitsDeclarator w MaybeName d) × FitsMore w rest
+  abbrev mutual
+    pub Fits : Expr → Type 0
+    Fits (Name t) = w t ≡ Ordinary
+    Fits (Constant t) = w t ≡ Number
+    Fits (Strings t ts) = (w t ≡ String) × AreStrings ts
+    Fits (Paren opening e closing) = Is w opening "(" × Fits e × Is w closing ")"
+    Fits (Postfix e suffixes) =
+        (is_primary e ≡ true) × Fits e × FitsSuffixes suffixes × (has_suffix suffixes ≡ true)
+    Fits (Unary op e) = Fits e × (takes (lead (w op)) e is_tight ≡ true)
+    Fits (SizeofType keyword opening s d closing) =
+        Is w keyword "sizeof" × Is w opening "(" × (FitsEach false s × GoTogether InType s × FitsDeclarator NoName d)
+        × Is w closing ")"
+    Fits (Cast opening s d closing e) =
+        Is w opening "(" × (FitsEach false s × GoTogether InType s × FitsDeclarator NoName d) × Is w closing ")"
+        × Fits e × (precedence w e ≡ level.cast)
+    Fits (Chain e ops) =
+        (is_chain_level (chain_level w ops) ≡ true) × Fits e × (precedence w e < chain_level w ops)
+        × FitsOperands (chain_level w ops) ops
+    Fits (Conditional test question second colon third) =
+        (Fits test × (precedence w test < level.conditional)) × Is w question "?" × Fits second × Is w colon ":"
+        × (Fits third × AtMost level.conditional third)
+    Fits (Assignment target op value) =
+        (Fits target × (is_unary target ≡ true)) × (follow (w op) ≡ Operator level.assignment)
+        × (Fits value × AtMost level.assignment value)
 
-  pub FitsEnumerators : (Token → Word) → Enumerators → Type 0
-  FitsEnumerators w (LastOne t comma) = (w t ≡ Ordinary) × IsComma w comma
-  FitsEnumerators w (LastValued t eq e comma) = (w t ≡ Ordinary) × (w eq ≡ Fixed (codes "=")) × (Fits w e × (looseness w e ≤ 11)) × IsComma w comma
-  FitsEnumerators w (One t comma rest) = (w t ≡ Ordinary) × (w comma ≡ Fixed (codes ",")) × FitsEnumerators w rest
-  FitsEnumerators w (Valued t eq e comma rest) = (w t ≡ Ordinary) × (w eq ≡ Fixed (codes "=")) × (Fits w e × (looseness w e ≤ 11)) × (w comma ≡ Fixed (codes ",")) × FitsEnumerators w rest
+    -- operators of one level, with operands that bind tighter
+    pub FitsOperands : level.Level → Operands → Type 0
+    FitsOperands k NoOperands = Unit {0}
+    FitsOperands k (Operand op e rest) =
+        (follow (w op) ≡ Operator k) × Fits e × (precedence w e < k) × FitsOperands k rest
+
+    pub FitsSuffixes : Suffixes → Type 0
+    FitsSuffixes NoSuffixes = Unit {0}
+    FitsSuffixes (Index opening e closing rest) = Is w opening "[" × Fits e × Is w closing "]" × FitsSuffixes rest
+    FitsSuffixes (CallEmpty opening closing rest) = Is w opening "(" × Is w closing ")" × FitsSuffixes rest
+    FitsSuffixes (Call opening e ops closing rest) =
+        Is w opening "(" × (Fits e × (precedence w e < level.comma) × FitsOperands level.comma ops) × Is w closing ")"
+        × FitsSuffixes rest
+    FitsSuffixes (MemberAccess t member rest) =
+        (follow (w t) ≡ Point) × (is_identifier (w member) ≡ true) × FitsSuffixes rest
+    FitsSuffixes (PostIncrement t rest) = (follow (w t) ≡ Steps) × FitsSuffixes rest
+
+    -- each specifier; the flag says whether a type is before these, and then a typedef name is none (6.7.7)
+    pub FitsEach : Bool → Specifiers → Type 0
+    FitsEach seen NoSpecifiers = Unit {0}
+    FitsEach seen (trees.Word t rest) =
+        (is_specifier_word (sort (w t)) ≡ true) × FitsEach (seen || is_type_word (sort (w t))) rest
+    FitsEach seen (TypedefName t rest) = (w t ≡ Typedef) × (seen ≡ false) × FitsEach true rest
+    FitsEach seen (Tagged keyword t rest) =
+        (is_tag_word (sort (w keyword)) ≡ true) × (is_identifier (w t) ≡ true) × FitsEach true rest
+    FitsEach seen (Struct keyword tag opening m closing rest) =
+        (sort (w keyword) ≡ StructWord) × IsTag tag × Is w opening "{" × (FitsMembers m × (has_member m ≡ true))
+        × Is w closing "}" × FitsEach true rest
+    FitsEach seen (Enum keyword tag opening m closing rest) =
+        (sort (w keyword) ≡ EnumWord) × IsTag tag × Is w opening "{" × FitsEnumerators m × Is w closing "}"
+        × FitsEach true rest
+
+    -- the specifiers, the declarators and the `;` of each member (6.7.2.1)
+    pub FitsMembers : Members → Type 0
+    FitsMembers NoMembers = Unit {0}
+    FitsMembers (Member s d ds semicolon rest) =
+        (FitsEach false s × GoTogether InType s × FitsDeclarator MemberName d) × FitsDeclarators MemberName ds
+        × Is w semicolon ";" × FitsMembers rest
+
+    pub FitsDeclarators : Naming → Declarators → Type 0
+    FitsDeclarators naming NoDeclarators = Unit {0}
+    FitsDeclarators naming (Also comma d rest) =
+        Is w comma "," × FitsDeclarator naming d × FitsDeclarators naming rest
+
+    pub FitsDeclarator : Naming → Declarator → Type 0
+    FitsDeclarator naming (Abstract stars ds) = (may_be_abstract naming ≡ true) × IsPointer stars × FitsDims ds
+    FitsDeclarator naming (Named stars t ds) = IsPointer stars × (may_name naming (w t) ≡ true) × FitsDims ds
+    FitsDeclarator naming (Nested stars opening d closing ds) =
+        IsPointer stars × Is w opening "(" × (FitsDeclarator naming d × (is_written d ≡ true)) × Is w closing ")"
+        × FitsDims ds
+
+    pub FitsDims : Dims → Type 0
+    FitsDims NoDims = Unit {0}
+    FitsDims (Open opening closing rest) = Is w opening "[" × Is w closing "]" × FitsDims rest
+    FitsDims (Sized opening e closing rest) =
+        Is w opening "[" × (Fits e × AtMost level.conditional e) × Is w closing "]" × FitsDims rest
+    FitsDims (Function opening p closing rest) = Is w opening "(" × FitsParams p × Is w closing ")" × FitsDims rest
+
+    pub FitsParams : Params → Type 0
+    FitsParams NoParams = Unit {0}
+    FitsParams (VoidParams t) = Is w t "void"
+    FitsParams (Parameters s d rest) =
+        (FitsEach false s × GoTogether InParameter s × FitsDeclarator MaybeName d) × FitsMore rest
+        × (is_void_alone s d rest ≡ false)
+
+    pub FitsMore : MoreParams → Type 0
+    FitsMore NoMore = Unit {0}
+    FitsMore (Ellipsis comma dots) = Is w comma "," × Is w dots "..."
+    FitsMore (More comma s d rest) =
+        Is w comma "," × (FitsEach false s × GoTogether InParameter s × FitsDeclarator MaybeName d) × FitsMore rest
+
+    pub FitsEnumerators : Enumerators → Type 0
+    FitsEnumerators (LastOne t comma) = (w t ≡ Ordinary) × IsComma comma
+    FitsEnumerators (LastValued t equals e comma) =
+        (w t ≡ Ordinary) × Is w equals "=" × (Fits e × AtMost level.conditional e) × IsComma comma
+    FitsEnumerators (One t comma rest) = (w t ≡ Ordinary) × Is w comma "," × FitsEnumerators rest
+    FitsEnumerators (Valued t equals e comma rest) =
+        (w t ≡ Ordinary) × Is w equals "=" × (Fits e × AtMost level.conditional e) × Is w comma ","
+        × FitsEnumerators rest

@@ -1,8 +1,14 @@
--- How deep a tree nests: its depth counted in expressions, declarators and the bodies of structs and enums. A leaf counts
--- one; a declarator of which nothing is written counts none.
+-- How deep a tree nests: its depth counted in expressions, declarators and the bodies of structs and enums. A leaf
+-- counts one; a declarator of which nothing is written counts none.
 use Rattle.std.specs.Prelude.{ℕ, suc, max, List, [], ◌∷◌}
 use Rattle.ck_base.specs.declared.tokens.Token.{Token}
-use Rattle.ck_grammar.specs.Trees.{Expr, Operands, Suffixes, Specifiers, Members, Declarators, Declarator, Dims, Params, MoreParams, Enumerators, Name, Constant, Strings, Paren, Postfix, Unary, SizeofType, Cast, Chain, Conditional, Assignment, NoOperands, Operand, NoSuffixes, Index, CallEmpty, Call, MemberAccess, PostIncrement, NoSpecifiers, Word, TypedefName, Tagged, Struct, Enum, NoMembers, Member, NoDeclarators, Also, Abstract, Named, Nested, NoDims, Open, Sized, Function, NoParams, VoidParams, Parameters, NoMore, Ellipsis, More, LastOne, LastValued, One, Valued}
+use Rattle.ck_grammar.specs.Trees.{Expr, Operands, Suffixes, Specifiers, Members, Declarators, Declarator, Dims, Params}
+use Rattle.ck_grammar.specs.Trees.{MoreParams, Enumerators, Name, Constant, Strings, Paren, Postfix, Unary, SizeofType}
+use Rattle.ck_grammar.specs.Trees.{Cast, Chain, Conditional, Assignment, NoOperands, Operand, NoSuffixes, Index}
+use Rattle.ck_grammar.specs.Trees.{CallEmpty, Call, MemberAccess, PostIncrement, NoSpecifiers, Word, TypedefName}
+use Rattle.ck_grammar.specs.Trees.{Tagged, Struct, Enum, NoMembers, Member, NoDeclarators, Also, Abstract, Named}
+use Rattle.ck_grammar.specs.Trees.{Nested, NoDims, Open, Sized, Function, NoParams, VoidParams, Parameters, NoMore}
+use Rattle.ck_grammar.specs.Trees.{Ellipsis, More, LastOne, LastValued, One, Valued}
 
 -- of an abstract declarator with these stars and dimensions that nest so deep: nothing written, nothing counted
 abbrev pub abstract_nesting : List Token → Dims → ℕ → ℕ
@@ -48,7 +54,8 @@ abbrev mutual
 
   pub members_nesting : Members → ℕ
   members_nesting NoMembers = 0
-  members_nesting (Member s d ds semicolon rest) = max (max (specifiers_nesting s) (declarator_nesting d)) (max (declarators_nesting ds) (members_nesting rest))
+  members_nesting (Member s d ds semicolon rest) = max (max (specifiers_nesting s) (declarator_nesting d))
+      (max (declarators_nesting ds) (members_nesting rest))
 
   pub declarators_nesting : Declarators → ℕ
   declarators_nesting NoDeclarators = 0
@@ -68,12 +75,14 @@ abbrev mutual
   pub params_nesting : Params → ℕ
   params_nesting NoParams = 0
   params_nesting (VoidParams t) = 0
-  params_nesting (Parameters s d rest) = max (max (specifiers_nesting s) (declarator_nesting d)) (more_params_nesting rest)
+  params_nesting (Parameters s d rest) = max (max (specifiers_nesting s) (declarator_nesting d))
+      (more_params_nesting rest)
 
   pub more_params_nesting : MoreParams → ℕ
   more_params_nesting NoMore = 0
   more_params_nesting (Ellipsis comma dots) = 0
-  more_params_nesting (More comma s d rest) = max (max (specifiers_nesting s) (declarator_nesting d)) (more_params_nesting rest)
+  more_params_nesting (More comma s d rest) = max (max (specifiers_nesting s) (declarator_nesting d))
+      (more_params_nesting rest)
 
   pub enumerators_nesting : Enumerators → ℕ
   enumerators_nesting (LastOne t comma) = 0

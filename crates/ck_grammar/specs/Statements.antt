@@ -17,18 +17,18 @@ mutual
     -- `{` initialisers `}`
     Braced : Token → Inits → Token → Init
 
-  -- initialisers in braces, each maybe behind designators; the last one maybe with a comma behind it
+  -- initialisers in braces, each maybe after designators; the last one maybe with a comma after it
   pub data Inits : Type 0 where
     LastInit : Option Designators → Init → Option Token → Inits
     NextInit : Option Designators → Init → Token → Inits → Inits
 
--- further declarators, each behind a comma, maybe with `=` and an initialiser behind it (6.7)
+-- further declarators, each after a comma, maybe with `=` and an initialiser after it (6.7)
 pub data MoreDeclared : Type 0 where
   NoMoreDeclared : MoreDeclared
   AndPlainly : Token → Declarator → MoreDeclared → MoreDeclared
   AndInitialised : Token → Declarator → Token → Init → MoreDeclared → MoreDeclared
 
--- what stands behind a declarator: maybe `=` and an initialiser, and then further declarators (6.7)
+-- what is after a declarator: maybe `=` and an initialiser, and then further declarators (6.7)
 pub data Declared : Type 0 where
   Plainly : MoreDeclared → Declared
   Initialised : Token → Init → MoreDeclared → Declared
@@ -73,7 +73,7 @@ mutual
     Return : Token → Token → Statement
     ReturnValue : Token → Expr → Token → Statement
 
-  -- what stands in a block (6.8.2)
+  -- what is in a block (6.8.2)
   pub data BlockItems : Type 0 where
     NoBlockItems : BlockItems
     DeclarationItem : Declaration → BlockItems → BlockItems

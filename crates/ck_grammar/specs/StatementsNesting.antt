@@ -1,8 +1,14 @@
--- How deep declarations, statements and files nest: as `Nesting`, counting statements and initialiser lists too. A function's
--- body counts one.
+-- How deep declarations, statements and files nest: as `Nesting`, counting statements and initialiser lists too. A
+-- function's body counts one.
 use Rattle.std.specs.Prelude.{ℕ, suc, max, List, [], ◌∷◌, Option, Some, None}
 use Rattle.ck_grammar.specs.Nesting.{nesting, specifiers_nesting, declarator_nesting}
-use Rattle.ck_grammar.specs.Statements.{Designators, Init, Inits, Declared, MoreDeclared, Declaration, ForStart, Statement, BlockItems, External, Equals, DotName, AtIndex, Value, Braced, LastInit, NextInit, Plainly, Initialised, NoMoreDeclared, AndPlainly, AndInitialised, Bare, Declares, StartEmpty, StartExpr, StartDeclaration, Block, Empty, ExpressionStatement, If, IfElse, Switch, While, Do, For, Case, Default, Label, Goto, Jump, Return, ReturnValue, NoBlockItems, DeclarationItem, StatementItem, FileDeclaration, FunctionDefinition}
+use Rattle.ck_grammar.specs.Statements.{Designators, Init, Inits, Declared, MoreDeclared, Declaration, ForStart}
+use Rattle.ck_grammar.specs.Statements.{Statement, BlockItems, External, Equals, DotName, AtIndex, Value, Braced}
+use Rattle.ck_grammar.specs.Statements.{LastInit, NextInit, Plainly, Initialised, NoMoreDeclared, AndPlainly}
+use Rattle.ck_grammar.specs.Statements.{AndInitialised, Bare, Declares, StartEmpty, StartExpr, StartDeclaration, Block}
+use Rattle.ck_grammar.specs.Statements.{Empty, ExpressionStatement, If, IfElse, Switch, While, Do, For, Case, Default}
+use Rattle.ck_grammar.specs.Statements.{Label, Goto, Jump, Return, ReturnValue, NoBlockItems, DeclarationItem}
+use Rattle.ck_grammar.specs.Statements.{StatementItem, FileDeclaration, FunctionDefinition}
 use Rattle.ck_grammar.specs.Trees.{Expr}
 
 abbrev pub designators_nesting : Designators → ℕ
@@ -26,7 +32,8 @@ abbrev mutual
 abbrev pub more_declared_nesting : MoreDeclared → ℕ
 more_declared_nesting NoMoreDeclared = 0
 more_declared_nesting (AndPlainly comma d rest) = max (declarator_nesting d) (more_declared_nesting rest)
-more_declared_nesting (AndInitialised comma d eq i rest) = max (max (declarator_nesting d) (init_nesting i)) (more_declared_nesting rest)
+more_declared_nesting (AndInitialised comma d eq i rest) = max (max (declarator_nesting d) (init_nesting i))
+    (more_declared_nesting rest)
 
 abbrev pub declared_nesting : Declared → ℕ
 declared_nesting (Plainly rest) = more_declared_nesting rest
@@ -34,7 +41,8 @@ declared_nesting (Initialised eq i rest) = max (init_nesting i) (more_declared_n
 
 abbrev pub declaration_nesting : Declaration → ℕ
 declaration_nesting (Bare s semicolon) = specifiers_nesting s
-declaration_nesting (Declares s d rest semicolon) = max (max (specifiers_nesting s) (declarator_nesting d)) (declared_nesting rest)
+declaration_nesting (Declares s d rest semicolon) = max (max (specifiers_nesting s) (declarator_nesting d))
+    (declared_nesting rest)
 
 abbrev pub start_nesting : ForStart → ℕ
 start_nesting (StartEmpty semicolon) = 0
@@ -55,7 +63,8 @@ abbrev mutual
   statement_nesting (Switch k o e c s) = suc (max (nesting e) (statement_nesting s))
   statement_nesting (While k o e c s) = suc (max (nesting e) (statement_nesting s))
   statement_nesting (Do k s l o e c semicolon) = suc (max (statement_nesting s) (nesting e))
-  statement_nesting (For k o start e semicolon f c s) = suc (max (max (start_nesting start) (maybe_nesting e)) (max (maybe_nesting f) (statement_nesting s)))
+  statement_nesting (For k o start e semicolon f c s) =
+      suc (max (max (start_nesting start) (maybe_nesting e)) (max (maybe_nesting f) (statement_nesting s)))
   statement_nesting (Case k e colon s) = suc (max (nesting e) (statement_nesting s))
   statement_nesting (Default k colon s) = suc (statement_nesting s)
   statement_nesting (Label t colon s) = suc (statement_nesting s)
@@ -71,7 +80,8 @@ abbrev mutual
 
 abbrev pub external_nesting : External → ℕ
 external_nesting (FileDeclaration d) = declaration_nesting d
-external_nesting (FunctionDefinition s d o is c) = max (max (specifiers_nesting s) (declarator_nesting d)) (suc (items_nesting is))
+external_nesting (FunctionDefinition s d o is c) = max (max (specifiers_nesting s) (declarator_nesting d))
+    (suc (items_nesting is))
 
 abbrev pub file_nesting : List External → ℕ
 file_nesting [] = 0

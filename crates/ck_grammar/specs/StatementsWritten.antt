@@ -1,7 +1,14 @@
--- The tokens that declarations, statements and files are written with, in order, and more tokens behind them (C99 6.7 to 6.9).
+-- The tokens that declarations, statements and files are written with, in order, and more tokens after them (C99 6.7
+-- to 6.9).
 use Rattle.std.specs.Prelude.{List, [], ◌∷◌, Option, Some, None}
 use Rattle.ck_base.specs.declared.tokens.Token.{Token}
-use Rattle.ck_grammar.specs.Statements.{Designators, Init, Inits, Declared, MoreDeclared, Declaration, ForStart, Statement, BlockItems, External, Equals, DotName, AtIndex, Value, Braced, LastInit, NextInit, Plainly, Initialised, NoMoreDeclared, AndPlainly, AndInitialised, Bare, Declares, StartEmpty, StartExpr, StartDeclaration, Block, Empty, ExpressionStatement, If, IfElse, Switch, While, Do, For, Case, Default, Label, Goto, Jump, Return, ReturnValue, NoBlockItems, DeclarationItem, StatementItem, FileDeclaration, FunctionDefinition}
+use Rattle.ck_grammar.specs.Statements.{Designators, Init, Inits, Declared, MoreDeclared, Declaration, ForStart}
+use Rattle.ck_grammar.specs.Statements.{Statement, BlockItems, External, Equals, DotName, AtIndex, Value, Braced}
+use Rattle.ck_grammar.specs.Statements.{LastInit, NextInit, Plainly, Initialised, NoMoreDeclared, AndPlainly}
+use Rattle.ck_grammar.specs.Statements.{AndInitialised, Bare, Declares, StartEmpty, StartExpr, StartDeclaration, Block}
+use Rattle.ck_grammar.specs.Statements.{Empty, ExpressionStatement, If, IfElse, Switch, While, Do, For, Case, Default}
+use Rattle.ck_grammar.specs.Statements.{Label, Goto, Jump, Return, ReturnValue, NoBlockItems, DeclarationItem}
+use Rattle.ck_grammar.specs.Statements.{StatementItem, FileDeclaration, FunctionDefinition}
 use Rattle.ck_grammar.specs.Trees.{Expr}
 use Rattle.ck_grammar.specs.Written.{written, specifiers, declarator, optional}
 
@@ -55,7 +62,8 @@ abbrev mutual
   statement (Switch k o e c s) more = k ∷ o ∷ written e (c ∷ statement s more)
   statement (While k o e c s) more = k ∷ o ∷ written e (c ∷ statement s more)
   statement (Do k s l o e c semicolon) more = k ∷ statement s (l ∷ o ∷ written e (c ∷ semicolon ∷ more))
-  statement (For k o start e semicolon f c s) more = k ∷ o ∷ for_start start (maybe_written e (semicolon ∷ maybe_written f (c ∷ statement s more)))
+  statement (For k o start e semicolon f c s) more = k ∷ o ∷ for_start start
+      (maybe_written e (semicolon ∷ maybe_written f (c ∷ statement s more)))
   statement (Case k e colon s) more = k ∷ written e (colon ∷ statement s more)
   statement (Default k colon s) more = k ∷ colon ∷ statement s more
   statement (Label t colon s) more = t ∷ colon ∷ statement s more

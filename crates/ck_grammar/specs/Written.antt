@@ -1,7 +1,13 @@
--- The tokens that a tree is written with, in order, and more tokens behind them (C99 6.5, 6.7).
+-- The tokens that a tree is written with, in order, and more tokens after them (C99 6.5, 6.7).
 use Rattle.std.specs.Prelude.{List, ◌∷◌, ◌++◌, Option, Some, None}
 use Rattle.ck_base.specs.declared.tokens.Token.{Token}
-use Rattle.ck_grammar.specs.Trees.{Expr, Operands, Suffixes, Specifiers, Members, Declarators, Declarator, Dims, Params, MoreParams, Enumerators, Name, Constant, Strings, Paren, Postfix, Unary, SizeofType, Cast, Chain, Conditional, Assignment, NoOperands, Operand, NoSuffixes, Index, CallEmpty, Call, MemberAccess, PostIncrement, NoSpecifiers, Word, TypedefName, Tagged, Struct, Enum, NoMembers, Member, NoDeclarators, Also, Abstract, Named, Nested, NoDims, Open, Sized, Function, NoParams, VoidParams, Parameters, NoMore, Ellipsis, More, LastOne, LastValued, One, Valued}
+use Rattle.ck_grammar.specs.Trees.{Expr, Operands, Suffixes, Specifiers, Members, Declarators, Declarator, Dims, Params}
+use Rattle.ck_grammar.specs.Trees.{MoreParams, Enumerators, Name, Constant, Strings, Paren, Postfix, Unary, SizeofType}
+use Rattle.ck_grammar.specs.Trees.{Cast, Chain, Conditional, Assignment, NoOperands, Operand, NoSuffixes, Index}
+use Rattle.ck_grammar.specs.Trees.{CallEmpty, Call, MemberAccess, PostIncrement, NoSpecifiers, Word, TypedefName}
+use Rattle.ck_grammar.specs.Trees.{Tagged, Struct, Enum, NoMembers, Member, NoDeclarators, Also, Abstract, Named}
+use Rattle.ck_grammar.specs.Trees.{Nested, NoDims, Open, Sized, Function, NoParams, VoidParams, Parameters, NoMore}
+use Rattle.ck_grammar.specs.Trees.{Ellipsis, More, LastOne, LastValued, One, Valued}
 
 abbrev pub optional : Option Token → List Token → List Token
 optional None more = more
@@ -43,7 +49,8 @@ abbrev mutual
 
   pub members : Members → List Token → List Token
   members NoMembers more = more
-  members (Member s d ds semicolon rest) more = specifiers s (declarator d (declarators ds (semicolon ∷ members rest more)))
+  members (Member s d ds semicolon rest) more =
+      specifiers s (declarator d (declarators ds (semicolon ∷ members rest more)))
 
   pub declarators : Declarators → List Token → List Token
   declarators NoDeclarators more = more

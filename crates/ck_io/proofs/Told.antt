@@ -1,10 +1,11 @@
 -- What a folder tells of a file that it has.
-use Rattle.std.proofs.Common.{[], ◌∷◌, ◌≡◌, ◌⊎◌, inl, inr, ℕ, List, Bool, true, false, cond, Option, Some, None, IsSome, IfSome, refl, arith}
+use Rattle.std.proofs.Common.{[], ◌∷◌, ◌≡◌, ◌⊎◌, inl, inr, ℕ, List, Bool, true, false, cond, Option, Some, None, IsSome}
+use Rattle.std.proofs.Common.{IfSome, refl, arith}
 use Rattle.std.specs.Prelude.{Contains}
 use Rattle.std.specs.Str.{bytes_eq}
 use Rattle.std.proofs.lemmas.Slice.Eq.{bytes_eq-Decides}
 use Rattle.std.proofs.lemmas.List.Elements.{Contains-append_cases, All-contains, All-cons, All-nil}
-use Rattle.ck_io.specs.Outside.{Files, names_of, bytes_of}
+use Rattle.ck_io.specs.Environment.{Files, names_of, bytes_of}
 
 -- the one element of a list
 only : (x y : List ℕ) → Contains (x ∷ []) y → x ≡ y
@@ -26,6 +27,7 @@ has_bytes (f ∷ files) name h = some_either (bytes_eq f.name name) f.bytes (byt
     ])
 
 -- what follows of any bytes from two facts
-pub if_some-both : (o : Option (List ℕ)) (P Q R : List ℕ → Type 0) → ((x : List ℕ) → P x → Q x → R x) → IfSome o P → IfSome o Q → IfSome o R
+pub if_some-both : (o : Option (List ℕ)) (P Q R : List ℕ → Type 0)
+    → ((x : List ℕ) → P x → Q x → R x) → IfSome o P → IfSome o Q → IfSome o R
 if_some-both None P Q R f p q = tt
 if_some-both (Some x) P Q R f p q = f x p q

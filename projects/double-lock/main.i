@@ -1,0 +1,7 @@
+void chSysInit(void);
+void chSysLock(void);
+int main(void) {
+  chSysInit();
+  chSysLock();
+  chSysLock();
+}

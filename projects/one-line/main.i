@@ -1,0 +1,1 @@
+void chSysInit(void);int	main(void){chSysInit();}

@@ -1,0 +1,6 @@
+void chSysInit(void); void chSysDisable(void); void chSysSuspend(void); void chSysEnable(void); void chSysLock(void); void chSysUnlock(void);
+int main(void) {
+chSysInit();
+chSysLock();
+chSysDisable();
+}

@@ -1,0 +1,5 @@
+void chSysInit(void); void chSysDisable(void); void chSysSuspend(void); void chSysEnable(void); void chSysLock(void); void chSysUnlock(void);
+int main(void) {
+chSysInit();
+chSysUnlock();
+}

@@ -1,0 +1,2 @@
+# 7 "main.c"
+union u { int a; };

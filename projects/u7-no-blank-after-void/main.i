@@ -1,0 +1,1 @@
+voidchSysInit(void); int main(void) {}

@@ -1,0 +1,1 @@
+void chSysHalt(void); int main(void) {}
