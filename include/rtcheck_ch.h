@@ -30,6 +30,7 @@ typedef uint32_t sysinterval_t;
 typedef uint32_t systime_t;
 typedef uint32_t eventmask_t;
 typedef uint32_t eventflags_t;
+typedef uint32_t syssts_t;
 
 /* Functions of threads and of timers. */
 typedef void (*tfunc_t)(void *);
@@ -266,5 +267,9 @@ void chEvtObjectInit(event_source_t *);
 void chMBObjectInit(mailbox_t *, msg_t *, size_t);
 void chVTObjectInit(virtual_timer_t *);
 void chThdQueueObjectInit(threads_queue_t *);
+
+/* The status pair. */
+syssts_t chSysGetStatusAndLockX(void);
+void chSysRestoreStatusX(syssts_t);
 
 #endif

@@ -48,4 +48,12 @@ pub enum Op {
     Neutral,
     /// The return of a vector's function or of a synthetic handler.
     HandlerReturn,
+    /// chSysGetStatusAndLockX, which opens a status pair.
+    GetStatus,
+    /// chSysRestoreStatusX, which closes it.
+    RestoreStatus,
+    /// The begin of a function that has a status variable.
+    PairEnter,
+    /// The end of a function that has a status variable.
+    PairLeft,
 }

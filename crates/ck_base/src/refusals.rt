@@ -33,6 +33,9 @@ pub enum Unsupported {
     U23,
     U24,
     U25,
+    U26,
+    U27,
+    U28,
 }
 
 /// Where a refusal stands.
@@ -76,7 +79,31 @@ pub enum Fault {
     Memory,
 }
 
-/// The number after the `U` of a refusal, from 1 to 25.
+impl From<OutOfMemory> for Fault {
+    fn from(_error: OutOfMemory) -> Fault {
+        Fault::Memory
+    }
+}
+
+impl From<AllocError> for Fault {
+    fn from(_error: AllocError) -> Fault {
+        Fault::Memory
+    }
+}
+
+impl<T: Drop> From<AllocFailed<T>> for Fault {
+    fn from(_error: AllocFailed<T>) -> Fault {
+        Fault::Memory
+    }
+}
+
+impl From<Refusal> for Fault {
+    fn from(refusal: Refusal) -> Fault {
+        Fault::Unsupported(refusal)
+    }
+}
+
+/// The number after the `U` of a refusal, from 1 to 28.
 pub fn number(kind: &Unsupported) -> u8
     ensures { result ≡ refusal_number kind.now }
 {
@@ -113,5 +140,8 @@ pub fn words(kind: &Unsupported) -> &'static str
         Unsupported::U23 => "main absent or of another type",
         Unsupported::U24 => "vector function of another type",
         Unsupported::U25 => "too large",
+        Unsupported::U26 => "status outside the subset",
+        Unsupported::U27 => "mutex argument outside the subset",
+        Unsupported::U28 => "more than 255 mutexes",
     }
 }

@@ -25,6 +25,16 @@ pub enum State {
     HE,
     /// A fast handler, which may make no kernel call.
     FF,
+    /// A thread in a critical section that a status pair entered.
+    XL,
+    /// A thread in a status pair that found it in TL.
+    NL,
+    /// A thread in a status pair, with a reschedule due, as one that the pair found in TP.
+    NP,
+    /// A handler in a critical section that a status pair entered.
+    OX,
+    /// A handler in a status pair that found it in HL.
+    ON,
 }
 
 /// Which alarm a call is.
@@ -34,7 +44,7 @@ pub enum Kind {
     Sv(u8),
     /// The kernel's assertion "priority order violation".
     Order,
-    /// The protocol alarm P#n, with n from 1 to 5.
+    /// The protocol alarm P#n, with n from 1 to 8.
     P(u8),
 }
 

@@ -2,7 +2,7 @@
 use Rattle.std.proofs.Common.{◌≡◌, ℕ, List, Option, sym, subst}
 use Rattle.std.specs.Prelude.{codes}
 use Rattle.ck_base.specs.declared.refusals.Unsupported.TheVariants.{U23, U25}
-use Rattle.ck_io.specs.Outside.{Files}
+use Rattle.ck_io.specs.Environment.{Files}
 use Rattle.ck_cli.specs.Door.{IsAnswer, no_main, too_large, judged, Answers, main_name}
 use Rattle.ck_cli.specs.MainFile.{IsMissing, IsTooLarge, IsReadAs}
 use Rattle.ck_cli.specs.Texts.{unsupported_text}

@@ -6,7 +6,7 @@ use Rattle.ck_base.specs.declared.refusals.Unsupported.TheVariants.{U7}
 use Rattle.ck_base.specs.declared.spans.Span.{Span}
 use Rattle.ck_base.specs.declared.states.Kind.{Kind}
 use Rattle.ck_base.specs.declared.tokens.Token.{Token}
-use Rattle.ck_io.specs.Outside.{Files, bytes_of}
+use Rattle.ck_io.specs.Environment.{Files, bytes_of}
 use Rattle.ck_lexer.specs.Tokens.{AreTokens, IsFirstFault}
 use Rattle.ck_cli.specs.declared.form.Call.{Call}
 use Rattle.ck_cli.specs.FileForm.{FileForm, Spells, main_start, made_calls}

@@ -8,7 +8,7 @@ use Rattle.std.proofs.lemmas.List.{length-replicate}
 use Rattle.std.proofs.lemmas.List.Folds.{list_all-map}
 use Rattle.std.proofs.lemmas.List.Sums.{AllPass-from_list_all, list_all-from_AllPass}
 use Rattle.std.proofs.lemmas.List.Sorted.{All-permutation, Contains-permutation, IsPermutation-sym}
-use Rattle.ck_io.specs.Outside.{File, Files, names_of, bytes_of, TellsNames, HasName, HasBytes, IsTooLong}
+use Rattle.ck_io.specs.Environment.{File, Files, names_of, bytes_of, TellsNames, HasName, HasBytes, IsTooLong}
 use Rattle.ck_cli.specs.Door.{HasJustMain, is_source, main_name, most_bytes}
 use Rattle.ck_cli.proofs.Cases.{either}
 use Rattle.ck_cli.specs.MainFile.{IsMissing, IsTooLarge, IsReadAs}

@@ -3,7 +3,7 @@ use Rattle.std.proofs.Common.{◌≡◌, ℕ, ◌+◌, ◌*◌, List, [], ◌∷
 use Rattle.ck_base.specs.declared.states.Kind.{Kind}
 use Rattle.ck_base.specs.declared.states.State.TheVariants.{TI}
 use Rattle.ck_base.specs.Counters.{counters_of}
-use Rattle.ck_io.specs.Outside.{Files, Appends}
+use Rattle.ck_io.specs.Environment.{Files, Appends}
 use Rattle.ck_cli.specs.declared.calls.KernelCall.{KernelCall}
 use Rattle.ck_cli.specs.declared.form.Call.{Call}
 use Rattle.ck_cli.specs.Calls.{op_of}

@@ -3,7 +3,7 @@
 use Rattle.std.specs.Prelude.{◌≡◌, ◌≤◌, ◌<◌, ◌⊎◌, ⊤, ℕ, Bool, IsTrue, nat_eq, List, [], ◌∷◌, length, take, codes, Option, Some, None, All, Contains, IfSome}
 use Rattle.std.specs.List.{ends_with}
 use Rattle.ck_base.specs.declared.refusals.Unsupported.TheVariants.{U23, U25}
-use Rattle.ck_io.specs.Outside.{Files, names_of, bytes_of, Appends}
+use Rattle.ck_io.specs.Environment.{Files, names_of, bytes_of, Appends}
 use Rattle.ck_cli.specs.Texts.{unsupported_text}
 use Rattle.ck_cli.specs.Verdict.{IsVerdict}
 use Rattle.ck_cli.specs.Kernel.{KernelIsQuiet}

@@ -1,6 +1,6 @@
 -- What was found of main.i in a folder. Private contracts alone speak of it; proofs/AnswerLemmas.antt joins it with Door.
 use Rattle.std.specs.Prelude.{◌≡◌, ◌≤◌, ◌<◌, ℕ, List, length, Option, Some}
-use Rattle.ck_io.specs.Outside.{Files, names_of, bytes_of}
+use Rattle.ck_io.specs.Environment.{Files, names_of, bytes_of}
 use Rattle.ck_cli.specs.declared.project.MainFile.{MainFile}
 use Rattle.ck_cli.specs.declared.project.MainFile.TheVariants.{Missing, TooLarge, Read}
 use Rattle.ck_cli.specs.Door.{HasJustMain, main_name, most_bytes, AreTold}

@@ -1,6 +1,6 @@
 //! What a file is answered.
 ghost use Rattle.std.specs.Prelude.{◌≡◌, ◌≢◌, ◌≤◌, length, IfOk};
-ghost use Rattle.ck_io.specs.Outside.{Rose};
+ghost use Rattle.ck_io.specs.Environment.{Rose};
 ghost use Rattle.ck_lexer.specs.Tokens.{AreTokens, IsFirstFault};
 ghost use Rattle.ck_cli.specs.Door.{Answers};
 ghost use Rattle.ck_cli.specs.Placed.{IsRefusalText};

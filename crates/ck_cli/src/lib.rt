@@ -11,7 +11,7 @@
 #![tactic(auto)]
 
 ghost use Rattle.std.specs.Prelude.{◌≡◌, ◌≢◌, ◌≤◌, ◌↔◌, IsTrue, map, string_bytes};
-ghost use Rattle.ck_io.specs.Outside.{Rose};
+ghost use Rattle.ck_io.specs.Environment.{Rose};
 ghost use Rattle.ck_cli.specs.Door.{IsCheck, IsOnlyAnswer, IsSilent, KernelIsQuietOn, Reports, ReportsPartly};
 
 mod answers;

@@ -2,7 +2,7 @@
 ghost use Rattle.std.specs.Prelude.{◌≡◌, ◌≤◌, ◌↔◌, ◌||◌, ◌&&◌, not, nat_eq, IsTrue, IfOk, map, string_bytes, codes};
 ghost use Rattle.std.specs.List.{list_any, list_all};
 ghost use Rattle.std.specs.Str.{bytes_eq};
-ghost use Rattle.ck_io.specs.Outside.{Rose};
+ghost use Rattle.ck_io.specs.Environment.{Rose};
 ghost use Rattle.ck_cli.specs.Door.{HasJustMain, is_source as ends_in_i, main_name};
 ghost use Rattle.ck_cli.specs.MainFile.{IsFound};
 

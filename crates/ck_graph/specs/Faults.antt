@@ -25,10 +25,15 @@ FitsKind Exit edges = edges ≡ 0
 -- a point has a fault
 pub data HasPointFault (flow : Flow) (number : ℕ) (point : Point) : Type 0 where
   function_out_of_range : function_count flow ≤ point.function.0 → HasPointFault flow number point
-  target_out_of_range : (target : FnId) → Contains point.targets target → function_count flow ≤ target.0 → HasPointFault flow number point
-  edge_leaves : (edge : Edge) → Contains point.edges edge → IsNoPointOf flow edge.to.0 point.function.0 → HasPointFault flow number point
+  target_out_of_range :
+      (target : FnId) → Contains point.targets target → function_count flow ≤ target.0 →
+      HasPointFault flow number point
+  edge_leaves :
+      (edge : Edge) → Contains point.edges edge → IsNoPointOf flow edge.to.0 point.function.0 →
+      HasPointFault flow number point
   edges_do_not_fit : (FitsKind point.kind (length point.edges) → ⊥) → HasPointFault flow number point
-  exit_not_named : point.kind ≡ Exit → (function_at flow point.function.0).exit.0 ≢ number → HasPointFault flow number point
+  exit_not_named :
+      point.kind ≡ Exit → (function_at flow point.function.0).exit.0 ≢ number → HasPointFault flow number point
 
 -- a function has a fault
 pub data HasFunctionFault (flow : Flow) (number : ℕ) : Type 0 where
@@ -38,7 +43,8 @@ pub data HasFunctionFault (flow : Flow) (number : ℕ) : Type 0 where
 
 -- what `checked` refuses
 pub data HasFault (flow : Flow) : Type 0 where
-  at_point : (number : ℕ) → number < point_count flow → HasPointFault flow number (point_at flow number) → HasFault flow
+  at_point :
+      (number : ℕ) → number < point_count flow → HasPointFault flow number (point_at flow number) → HasFault flow
   at_function : (number : ℕ) → number < function_count flow → HasFunctionFault flow number → HasFault flow
 
 pub record IsPointSound (flow : Flow) (number : ℕ) (point : Point) : Type 0 where

@@ -46,9 +46,18 @@ point_count flow = length flow.points
 abbrev pub function_count : Flow → ℕ
 function_count flow = length flow.functions
 
--- a plain point without edges, for which a number stands that no point has
+-- what a number that no point has is read as: a plain point without edges
 abbrev pub no_point : Point
-no_point = record { kind = Plain; function = record { 0 = 0 }; site = Nowhere; path = []; order = []; side = 0; edges = []; targets = [] }
+no_point = record {
+  kind = Plain;
+  function = record { 0 = 0 };
+  site = Nowhere;
+  path = [];
+  order = [];
+  side = 0;
+  edges = [];
+  targets = [];
+}
 
 abbrev pub no_function : FunctionPart
 no_function = record { first = record { 0 = 0 }; exit = record { 0 = 0 } }

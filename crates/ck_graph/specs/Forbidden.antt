@@ -29,7 +29,7 @@ abbrev pub alarm_in : PointKind → State → Option Kind
 alarm_in (Act op name) state = alarm_of_outcome (act op state)
 alarm_in _ state = None
 
--- the configuration is forbidden: its running function stands at an act that raises this alarm
+-- the configuration is forbidden: its running function is at an act that raises this alarm
 abbrev pub IsForbidden : Flow → Configuration → Kind → Type 0
 IsForbidden flow c kind = alarm_in (point_at flow c.top.point).kind c.state ≡ Some kind
 
@@ -50,7 +50,8 @@ abbrev pub offset_of : Spot → ℕ
 offset_of (At span) = span.start
 offset_of _ = 0
 
--- the kernel's halts SV#n come first, then the priority order violation, then the protocol alarms P#n
+-- the kernel's halts SV#1 to SV#11 come first, then the priority order violation ORDER, then the protocol alarms
+-- P#1 to P#8
 abbrev pub class_of : Kind → ℕ
 class_of (Sv n) = 0
 class_of Order = 1
@@ -83,4 +84,6 @@ pub record AreAlarms (flow : Flow) (roots : List Root) (alarms : List PointAlarm
 
 -- no graph and roots have two lists of alarms
 abbrev pub HaveOneAlarmList : Type 0
-HaveOneAlarmList = (flow : Flow) (roots : List Root) (xs ys : List PointAlarm) → AreAlarms flow roots xs → AreAlarms flow roots ys → xs ≡ ys
+HaveOneAlarmList =
+    (flow : Flow) (roots : List Root) (xs ys : List PointAlarm) →
+    AreAlarms flow roots xs → AreAlarms flow roots ys → xs ≡ ys

@@ -1,4 +1,10 @@
-pub mod Flow
-pub mod Faults
-pub mod Walk
+-- What is promised
 pub mod Forbidden
+pub mod Faults
+pub mod Summary
+pub mod MatchedPath
+-- What it rests on
+pub mod Walk
+pub mod Steps
+-- From memory to plain values
+pub mod Flow

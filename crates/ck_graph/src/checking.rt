@@ -77,7 +77,10 @@ fn points_are_sound(parts: &Parts) -> bool
 /// Whether a point, which has this number, has no fault.
 fn is_point_sound(parts: &Parts, number: usize, point: &PointPart) -> bool
     ensures { let flow = flow_of parts.now in
-        MatchBool result (IsPointSound flow number (point_of point.now)) (HasPointFault flow number (point_of point.now)) }
+        MatchBool
+        result
+        (IsPointSound flow number (point_of point.now))
+        (HasPointFault flow number (point_of point.now)) }
 {
     if !is_function(parts, point.function) {
         return false;

@@ -57,7 +57,7 @@ impl Graph {
         self.parts.point(point.0 as usize).function
     }
 
-    /// Where a point stands in the text.
+    /// A point's place in the text, if it has one.
     pub fn site(&self, point: PointId) -> &Spot
         requires { point.0 < point_count self.now }
         ensures { result.now ≡ (point_at self.now point.0).site }

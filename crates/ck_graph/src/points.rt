@@ -10,7 +10,7 @@ pub enum Label {
     True,
     /// A test that doesn't hold.
     False,
-    /// A case of a `switch`, numbered from 0 in written order.
+    /// A case of a `switch`, numbered from 0 in written order (a report counts cases from 1).
     Case(u32),
     /// The way of a `switch` that no case takes.
     Default,
@@ -34,10 +34,12 @@ pub enum ActName {
     Kernel(RowId),
     /// An outside function, by its place among those that the settings name, from 0.
     Outside(u32),
-    /// The return of a vector's function.
+    /// The return of a vector's function, or of a function that keeps a status.
     Return,
     /// The return of a thread's function.
     ThreadReturn,
+    /// The entry of a function that keeps a status.
+    Entry,
 }
 
 /// What happens at a point.
@@ -60,13 +62,13 @@ pub struct PointPart {
     pub kind: PointKind,
     /// The function that the point is of.
     pub function: FnId,
-    /// Where it stands in the text, if anywhere.
+    /// Its place in the text, if it has one.
     pub site: Spot,
     /// The way from the function's body down: the numbers of the children, from 0.
     pub path: Vec<u32>,
     /// The orders of the unsequenced operands round it, the outermost first.
     pub order: Vec<u8>,
-    /// Which of the points of one place it is: split, before, test or after, from 0.
+    /// Which of the points of one place it is: split, before, enter, test, leave or after, from 0 to 5.
     pub side: u8,
     pub edges: Vec<Edge>,
     /// The functions that a call point may enter.

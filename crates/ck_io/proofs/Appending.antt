@@ -1,7 +1,7 @@
 -- What a sink took grows by one piece after another.
 use Rattle.std.proofs.Common.{◌≡◌, ℕ, ◌+◌, ◌≤◌, List, take, drop, length, Option, Some, None, ap, append_assoc, arith, length-drop}
 use Rattle.std.proofs.Math.Seq.{take-add}
-use Rattle.ck_io.specs.Outside.{Appends}
+use Rattle.ck_io.specs.Environment.{Appends}
 
 -- the first `n` bytes and then the next `m` are the first `n + m`
 pub appends_more : (before between after : Option (List ℕ)) (bytes piece : List ℕ) (n m : ℕ)

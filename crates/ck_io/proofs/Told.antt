@@ -4,7 +4,7 @@ use Rattle.std.specs.Prelude.{Contains}
 use Rattle.std.specs.Str.{bytes_eq}
 use Rattle.std.proofs.lemmas.Slice.Eq.{bytes_eq-Decides}
 use Rattle.std.proofs.lemmas.List.Elements.{Contains-append_cases, All-contains, All-cons, All-nil}
-use Rattle.ck_io.specs.Outside.{Files, names_of, bytes_of}
+use Rattle.ck_io.specs.Environment.{Files, names_of, bytes_of}
 
 -- the one element of a list
 only : (x y : List ℕ) → Contains (x ∷ []) y → x ≡ y

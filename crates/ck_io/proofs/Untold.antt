@@ -1,7 +1,7 @@
 -- What a folder or a sink that tells nothing owes its trait.
 use Rattle.std.proofs.Common.{◌≡◌, ℕ, Result, Ok, Err, IfOk, OnErr, arith}
-use Rattle.ck_io.specs.Outside.{Rose}
-use Rattle.ck_io.specs.FaultPlan.{one_more}
+use Rattle.ck_io.specs.Environment.{Rose}
+use Rattle.ck_io.specs.Environment.{one_more}
 
 -- what holds of any value holds of the one that there is
 pub if_ok : {T E : Type 0} (r : Result T E) (P : T → Type 0) → ((x : T) → P x) → IfOk r P

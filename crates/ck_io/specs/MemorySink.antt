@@ -1,4 +1,4 @@
--- What a sink in memory shows.
+-- A sink in memory: what it shows, how much it takes, and when a write fails.
 use Rattle.std.specs.Prelude.{ℕ, ◌<◌, ◌-◌, ◌≡◌, ◌⊎◌, List, length, min}
 use Rattle.ck_io.specs.FaultPlan.{FailsNext}
 use Rattle.ck_io.specs.declared.memory_sink.MemorySink.{MemorySink}

@@ -1,6 +1,7 @@
 //! Calls that fail by their number, and the count of those that failed.
 ghost use Rattle.std.specs.Prelude.{◌≡◌, ◌≤◌, ◌↔◌, IsTrue, if◌then◌else◌};
-ghost use Rattle.ck_io.specs.FaultPlan.{FailsNext, one_more};
+ghost use Rattle.ck_io.specs.Environment.{one_more};
+ghost use Rattle.ck_io.specs.FaultPlan.{FailsNext};
 
 /// Which calls fail by their number, how many were made, and how many failed. Both counts stay at
 /// 18,446,744,073,709,551,615, and from there on no call fails by its number.

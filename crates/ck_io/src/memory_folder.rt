@@ -20,18 +20,19 @@ ghost use Rattle.std.specs.Prelude.{
   OnOk,
   IsErr,
 };
-ghost use Rattle.ck_io.specs.Outside.{
+ghost use Rattle.ck_io.specs.Environment.{
   NamesDiffer,
   TellsNames,
   HasName,
   ReadsAt,
   LeavesBuffer,
   Rose,
+  one_more,
   names_of,
   bytes_of,
 };
-ghost use Rattle.ck_io.specs.MemoryFiles.{files_of, FillsFully};
-ghost use Rattle.ck_io.specs.FaultPlan.{FailsNext, one_more};
+ghost use Rattle.ck_io.specs.MemoryFiles.{files_of};
+ghost use Rattle.ck_io.specs.FaultPlan.{FailsNext};
 
 use crate::fault_plan::FaultPlan;
 use crate::{Failed, Folder, NamesError};
@@ -72,9 +73,9 @@ fn find_bytes<'a>(files: &'a [(String, Vec<u8>)], name: &str) -> Option<&'a [u8]
     None
 }
 
-/// Fills a front of `buffer`, as long as it can be, with `bytes` from the place `at` on, and answers
-/// its length.
-fn fill_front(bytes: &[u8], at: usize, buffer: &mut [u8]) -> usize
+/// Fills a prefix of `buffer`, as long as it can be, with `bytes` from the offset `at` on, and
+/// answers its length.
+fn fill_prefix(bytes: &[u8], at: usize, buffer: &mut [u8]) -> usize
     ensures count { result ≡ min (length buffer.old) (length bytes.now - at) }
     ensures filled { buffer.new ≡ take result (drop at bytes.now) ++ drop result buffer.old }
 {
@@ -104,7 +105,13 @@ impl MemoryFolder {
 }
 
 impl Folder for MemoryFolder {
-    ghost use Rattle.ck_io.specs.MemoryFolder.{folder_files, folder_fail, folder_calls, folder_faults};
+    ghost use Rattle.ck_io.specs.MemoryFolder.{
+      folder_files,
+      folder_fail,
+      folder_calls,
+      folder_faults,
+      FillsFully,
+    };
 
     ghost told = { λ folder. Some (folder_files folder) };
 
@@ -113,7 +120,7 @@ impl Folder for MemoryFolder {
     ghost names_differ = { λ folder. folder.names_differ };
 
     /// The name of each file once. It answers `Failed` exactly where the call fails by its number,
-    /// and `Memory` where memory ran out.
+    /// and `Memory` where memory ran out. `Failed` alone raises the count of failed calls.
     fn names(&mut self, alloc: Global) -> Result<Vec<String>, NamesError>
         ensures kept { folder_files self.new ≡ folder_files self.old }
         ensures fail_kept { folder_fail self.new ≡ folder_fail self.old }
@@ -127,11 +134,11 @@ impl Folder for MemoryFolder {
         if self.plan.count_call() {
             return Err(NamesError::Failed);
         }
-        copy_names(&self.files, alloc).map_err(|_| NamesError::Memory)
+        Ok(copy_names(&self.files, alloc)?)
     }
 
-    /// Fills a front of `buffer`, as long as it can be, with the bytes of the file `name` from the
-    /// place `at` on, and answers its length. It fails exactly where the call fails by its number,
+    /// Fills a prefix of `buffer`, as long as it can be, with the bytes of the file `name` from the
+    /// offset `at` on, and answers its length. It fails exactly where the call fails by its number,
     /// and then leaves `buffer` as it was.
     fn read_at(&mut self, name: &str, at: u64, buffer: &mut [u8]) -> Result<usize, Failed>
         requires { HasName (Some (folder_files self.old)) name.now }
@@ -151,6 +158,6 @@ impl Folder for MemoryFolder {
             return Err(Failed);
         }
         let bytes = find_bytes(&self.files, name).unwrap();
-        Ok(fill_front(bytes, at as usize, buffer))
+        Ok(fill_prefix(bytes, at as usize, buffer))
     }
 }

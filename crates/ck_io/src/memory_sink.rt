@@ -17,7 +17,7 @@ ghost use Rattle.std.specs.Prelude.{
   IsErr,
   IsOk,
 };
-ghost use Rattle.ck_io.specs.FaultPlan.{one_more};
+ghost use Rattle.ck_io.specs.Environment.{one_more};
 
 use crate::fault_plan::FaultPlan;
 use crate::{Failed, Sink};
@@ -103,7 +103,7 @@ impl Sink for MemorySink {
 
     ghost faults = { sink_faults };
 
-    /// Takes a front of `bytes`, as long as the least of its length, the most for one write and the
+    /// Takes a prefix of `bytes`, as long as the least of its length, the most for one write and the
     /// room left, and answers its length. It fails, and takes nothing, exactly where the write fails
     /// by its number or a piece that isn't empty meets a full capacity.
     fn write(&mut self, bytes: &[u8]) -> Result<usize, Failed>

@@ -1,6 +1,6 @@
 //! The real folder and the standard output: the edge, of which no contract can say the bytes.
 ghost use Rattle.std.specs.Prelude.{◌≡◌, ◌≢◌, ◌≤◌, Option, None, length, IfOk, OnOk, OnErr};
-ghost use Rattle.ck_io.specs.FaultPlan.{one_more};
+ghost use Rattle.ck_io.specs.Environment.{one_more};
 ghost use Rattle.ck_io.specs.Real.{real_folder_faults, real_sink_faults};
 
 use crate::{Failed, Folder, NamesError, Sink};

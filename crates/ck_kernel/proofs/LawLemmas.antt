@@ -9,9 +9,9 @@ use Rattle.std.proofs.lemmas.List.Elements.{All-from_get_or}
 use Rattle.std.proofs.lemmas.Option.{slice_get-get_or}
 use Rattle.std.proofs.lemmas.Slice.Eq.{bytes_eq-Decides}
 use Rattle.ck_base.specs.declared.ops.Op.{Op}
-use Rattle.ck_base.specs.declared.ops.Op.TheVariants.{Init, Halt, Disable, Suspend, Enable, Lock, Unlock, LockIsr, UnlockIsr, Prologue, Epilogue, IQuiet, IWakes, SPlain, SWakes, SSettles, Normal, ExitNormal, ExitS, Free, Neutral, HandlerReturn}
+use Rattle.ck_base.specs.declared.ops.Op.TheVariants.{Init, Halt, Disable, Suspend, Enable, Lock, Unlock, LockIsr, UnlockIsr, Prologue, Epilogue, IQuiet, IWakes, SPlain, SWakes, SSettles, Normal, ExitNormal, ExitS, Free, GetStatus, RestoreStatus}
 use Rattle.ck_kernel.specs.KernelTable.{kernel_table, row_numbered}
-use Rattle.ck_kernel.specs.Laws.{NamesDiffer, RowsHaveTheirNames, NamesHaveTheirRows, OthersHaveNone, OpsHaveCalls, EntriesAreParameters, is_of_calls, is_among}
+use Rattle.ck_kernel.specs.Laws.{NamesDiffer, RowsHaveTheirNames, NamesHaveTheirRows, OthersHaveNone, OpsHaveCalls, EntriesAreParameters, is_of_calls, is_parameter}
 use Rattle.ck_kernel.proofs.Searching.{position_cases}
 use Rattle.ck_kernel.proofs.RowLemmas.{blank, at_each, at_row, position_of_row}
 
@@ -41,13 +41,13 @@ others_have_none text = elim (position_cases (λ c. bytes_eq c.name text) kernel
       rw none (All-from_get_or (λ c. c.name ≢ text) kernel_table blank (λ k h same. both_ways _ (other k h) ((bytes_eq-Decides _ _).1 same)))
 ]
 
-entries : at_each (λ k c. is_among c.parameters c.entry) ≡ true
+entries : at_each (λ k c. is_parameter c.parameters c.entry) ≡ true
 unfolding kernel_table
 entries = refl
 
 pub entries_are_parameters : EntriesAreParameters
 entries_are_parameters =
-    All-from_get_or (λ c. IsTrue (is_among c.parameters c.entry)) kernel_table blank (λ k h. at_row (λ k c. is_among c.parameters c.entry) k entries h)
+    All-from_get_or (λ c. IsTrue (is_parameter c.parameters c.entry)) kernel_table blank (λ k h. at_row (λ k c. is_parameter c.parameters c.entry) k entries h)
 
 -- whether an op has a call: the index of the first one
 first_call : (op : Op) → IsTrue (is_of_calls op) → Any (λ c. c.op ≡ op) kernel_table
@@ -72,8 +72,9 @@ first_call SSettles h = (102, _, lit< tt, refl, refl)
 first_call SWakes h = (106, _, lit< tt, refl, refl)
 first_call SPlain h = (107, _, lit< tt, refl, refl)
 first_call Free h = (119, _, lit< tt, refl, refl)
-first_call Neutral h = absurd (cc)
-first_call HandlerReturn h = absurd (cc)
+first_call GetStatus h = (134, _, lit< tt, refl, refl)
+first_call RestoreStatus h = (135, _, lit< tt, refl, refl)
+first_call _ h = absurd (cc)
 
 ops : at_each (λ k c. is_of_calls c.op) ≡ true
 unfolding kernel_table

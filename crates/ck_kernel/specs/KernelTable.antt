@@ -5,7 +5,7 @@ use Prim.Native.String.{String}
 use Rattle.std.specs.Option.{option_map}
 use Rattle.std.specs.Str.{bytes_eq}
 use Rattle.ck_base.specs.declared.ops.Op.{Op}
-use Rattle.ck_base.specs.declared.ops.Op.TheVariants.{Init, Halt, Disable, Suspend, Enable, Lock, Unlock, LockIsr, UnlockIsr, Prologue, Epilogue, IQuiet, IWakes, SPlain, SWakes, SSettles, Normal, ExitNormal, ExitS, Free}
+use Rattle.ck_base.specs.declared.ops.Op.TheVariants.{Init, Halt, Disable, Suspend, Enable, Lock, Unlock, LockIsr, UnlockIsr, Prologue, Epilogue, IQuiet, IWakes, SPlain, SWakes, SSettles, Normal, ExitNormal, ExitS, Free, GetStatus, RestoreStatus}
 use Rattle.ck_base.specs.declared.spans.RowId.{RowId}
 use Rattle.ck_kernel.specs.declared.entries.EntrySink.{EntrySink}
 use Rattle.ck_kernel.specs.declared.entries.EntrySink.TheVariants.{Absent, Thread, Descriptor, Timer}
@@ -166,6 +166,9 @@ kernel_table =
     call "chMBObjectInit" Free 3 Absent ∷
     call "chVTObjectInit" Free 1 Absent ∷
     call "chThdQueueObjectInit" Free 1 Absent ∷
+    -- the status pair
+    call "chSysGetStatusAndLockX" GetStatus 0 Absent ∷
+    call "chSysRestoreStatusX" RestoreStatus 1 Absent ∷
     []
 
 -- a row of the table

@@ -27,7 +27,7 @@ macro_rules! calls {
 }
 
 /// The rows by their numbers. tools/check_header.sh reads these lines.
-pub static CALLS: [Call; 134] = calls! {
+pub static CALLS: [Call; 136] = calls! {
     // the system, and the ends of a handler
     "chSysInit" Init 0 Absent;
     "chSysDisable" Disable 0 Absent;
@@ -171,4 +171,7 @@ pub static CALLS: [Call; 134] = calls! {
     "chMBObjectInit" Free 3 Absent;
     "chVTObjectInit" Free 1 Absent;
     "chThdQueueObjectInit" Free 1 Absent;
+    // the status pair
+    "chSysGetStatusAndLockX" GetStatus 0 Absent;
+    "chSysRestoreStatusX" RestoreStatus 1 Absent;
 };

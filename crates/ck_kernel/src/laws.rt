@@ -14,8 +14,8 @@ pub fn names_and_rows_are_inverse()
     ensures others { OthersHaveNone }
 {}
 
-/// The ops of the table's calls are all but those of an outside function that is neutral and of a
-/// handler's return.
+/// The ops of the table's calls are all but those that no call has: of an outside function that is
+/// neutral, of a handler's return, and of the begin and end of a function that has a status variable.
 pub fn ops_have_calls()
     ensures { OpsHaveCalls }
 {}

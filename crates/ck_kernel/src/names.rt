@@ -31,16 +31,16 @@ static BY_LENGTH: [&[u16]; 24] = [
     &[6, 15, 25, 59, 73, 76, 80, 89, 91, 102, 116, 123, 127, 129],
     &[11, 29, 39, 63, 72, 93, 94, 111, 118, 121],
     &[7, 113, 119, 124],
-    &[44, 49, 50, 51],
+    &[44, 49, 50, 51, 135],
     &[13, 58, 82, 100, 107, 109, 133],
     &[88, 117, 122, 125],
-    &[41],
+    &[41, 134],
     &[17],
 ];
 
 /// The row whose call has this name, if there is one.
 ///
-/// A name that begins like no call's is told by its front, and any other is compared with the calls of
+/// A name that begins like no call's is told by its prefix, and any other is compared with the calls of
 /// its length alone.
 pub fn row_of(name: &str) -> Option<RowId>
     ensures row { result ≡ row_named name.now }
@@ -48,7 +48,7 @@ pub fn row_of(name: &str) -> Option<RowId>
 {
     let text = name.as_bytes();
     if begins_like_a_call(text) {
-        named_among(of_length(text.len()), text).map(RowId)
+        first_named(of_length(text.len()), text).map(RowId)
     } else {
         None
     }
@@ -62,7 +62,7 @@ fn begins_like_a_call(text: &[u8]) -> bool
 }
 
 /// The first of these rows whose call has this name.
-fn named_among(rows: &[u16], text: &[u8]) -> Option<u16>
+fn first_named(rows: &[u16], text: &[u8]) -> Option<u16>
     ensures { result ≡ find (λ row. names row text.now) rows.now }
 {
     rows.iter().copied().find(|row| is_named(*row, text))

@@ -1,6 +1,7 @@
-pub mod Members
-pub mod PairLemmas
-pub mod MaskLemmas
-pub mod UnionLemmas
-pub mod ImageLemmas
+-- Theorems: what the calls do to the pairs
+pub mod Unions
+pub mod Compositions
 pub mod SinglePairs
+-- What they rest on: relations as lists of pairs
+pub mod PairLists
+pub mod Choices

@@ -1,84 +1,71 @@
--- What one bit of a mask means for the pairs.
-use Rattle.std.proofs.Common.{◌≡◌, ◌≢◌, ℕ, ◌+◌, ◌*◌, ◌%◌, ◌^◌, ◌<◌, ◌⊎◌, ◌↔◌, Bool, true, false, List, [], ◌∷◌, length, get_or, set, replicate, bit_or, refl, sym, ap, ◌∙◌, subst, inl, inr, arith, get_or-set_same, get_or-set_other}
-use Rattle.std.specs.List.{Contains}
+-- One pair that is added to a relation, and the relation without a pair.
+use Rattle.std.proofs.Common.{◌≡◌, ℕ, ◌*◌, ◌%◌, ◌^◌, ◌<◌, ◌⊎◌, ◌↔◌, List, [], ◌∷◌, length, get_or, set, replicate, bit_or, sym, ap, ◌∙◌, subst, inl, inr, arith, get_or-set_same, get_or-set_other}
 use Rattle.std.specs.Int.{bit_at, w16}
 use Rattle.std.proofs.lemmas.Bool.{cases_eq}
 use Rattle.std.proofs.lemmas.List.{get_or-replicate}
 use Rattle.std.proofs.lemmas.Nat.Bits.{bit_at-zero, bit_at_set_same, bit_at_set_other}
 use Rattle.ck_rows.specs.declared.rows.Rows.{Rows}
-use Rattle.ck_rows.specs.Relation.{Pair, pair, pairs, HaveSamePairs, Relates}
-use Rattle.ck_rows.proofs.Members.{Contains-nil, Contains-cons_cases, Contains-here, Contains-later}
-use Rattle.ck_rows.proofs.PairLemmas.{Contains-pairs, Relates-from_pairs}
+use Rattle.ck_rows.specs.Relation.{Pair, pair, pairs, rows_of, HaveSamePairs, Relates}
+use Rattle.ck_rows.proofs.Choices.{Contains-from_In, In-from_Contains}
+use Rattle.ck_rows.proofs.PairLists.{pairs-bits, relates, HaveSamePairs-from}
 
--- a mask with bit t set, as the code computes it
-abbrev pub with_bit : ℕ → ℕ → ℕ
-with_bit mask t = bit_or mask (1 * 2 ^ t % 2 ^ 16)
+module _ (rows : Rows) (i t : ℕ) (whole : length rows.mask ≡ 16) (from : i < 16) (to : t < 16) where
+  -- the mask i with bit t set, as the code computes it
+  abbrev mask : ℕ
+  mask = bit_or (get_or rows.mask i 0) (1 * 2 ^ t % 2 ^ 16)
 
-abbrev pub rows_with : Rows → ℕ → ℕ → Rows
-rows_with rows i t = record { mask = set rows.mask i (with_bit (get_or rows.mask i 0) t) }
+  abbrev now : Rows
+  now = rows_of (set rows.mask i mask)
 
-pub pair-there : (rows : Rows) (i t : ℕ) → length rows.mask ≡ 16 → i < 16 → t < 16 → Relates (rows_with rows i t) i t
-pair-there rows i t whole from to =
-    let within : i < length rows.mask = omega (arith, whole, from) in
-    let v : ℕ = with_bit (get_or rows.mask i 0) t in
-    record {
-      from_below = from;
-      to_below = to;
-      bit = ap (λ m. bit_at m t) (get_or-set_same rows.mask i v 0 within) ∙ bit_at_set_same w16 (get_or rows.mask i 0) t to;
-    }
+  here : get_or now.mask i 0 ≡ mask
+  here = get_or-set_same rows.mask i mask 0 (omega arith)
 
--- the bit of another pair is as it was
-other_bit : (rows : Rows) (i t a b : ℕ) → length rows.mask ≡ 16 → i < 16 → t < 16 → ((a ≡ i) × (b ≡ t) → ⊥) → bit_at (get_or (rows_with rows i t).mask a 0) b ≡ bit_at (get_or rows.mask a 0) b
-other_bit rows i t a b whole from to other =
-    let within : i < length rows.mask = omega (arith, whole, from) in
-    let v : ℕ = with_bit (get_or rows.mask i 0) t in
-    elim (cases_eq a i) [
-      | inr ne ↦ ap (λ m. bit_at m b) (get_or-set_other rows.mask i a v 0 ne)
-      | inl same ↦
-          let differs : b ≢ t = λ e. other (same, e) in
-          subst (λ x. bit_at (get_or (set rows.mask i v) x 0) b ≡ bit_at (get_or rows.mask x 0) b) (sym same)
-          (ap (λ m. bit_at m b) (get_or-set_same rows.mask i v 0 within) ∙ bit_at_set_other w16 (get_or rows.mask i 0) t to b differs)
+  there : (a b : ℕ) → (a ≡ i) × (b ≡ t) → Relates now a b
+  there a b e =
+      let same : pair i t ≡ pair a b = cc in
+      let bit = ap (λ m. bit_at m t) here ∙ bit_at_set_same w16 (get_or rows.mask i 0) t to in
+      let it : Relates now i t = record { from_below = from; to_below = to; bit = bit } in
+      subst (λ (p : Pair). Relates now p.0 p.1) same it
+
+  -- it is this pair, or its bit is as it was
+  same-or-kept : (a b : ℕ) → ((a ≡ i) × (b ≡ t)) ⊎ (bit_at (get_or now.mask a 0) b ≡ bit_at (get_or rows.mask a 0) b)
+  same-or-kept a b = elim (cases_eq a i) [
+    | inr ne ↦ inr (ap (λ m. bit_at m b) (get_or-set_other rows.mask i a mask 0 ne))
+    | inl e ↦ elim (cases_eq b t) [
+      | inl f ↦ inl (e, f)
+      | inr ne ↦ inr (subst (λ a. bit_at (get_or now.mask a 0) b ≡ bit_at (get_or rows.mask a 0) b) (sym e)
+          (ap (λ m. bit_at m b) here ∙ bit_at_set_other w16 (get_or rows.mask i 0) t to b ne))
     ]
+  ]
 
-pair_or_other : (a b i t : ℕ) → ((a ≡ i) × (b ≡ t)) ⊎ ((a ≡ i) × (b ≡ t) → ⊥)
-pair_or_other a b i t = elim (cases_eq a i) [
-  | inl p ↦ elim (cases_eq b t) [ inl q ↦ inl (p, q) | inr q ↦ inr (λ h. q h.1) ]
-  | inr p ↦ inr (λ h. p h.0)
-]
+  pub added : (a b : ℕ) → Relates now a b ↔ (Relates rows a b ⊎ ((a ≡ i) × (b ≡ t)))
+  added a b = elim (same-or-kept a b) [
+    | inl e ↦ (λ r. inr e, λ h. there a b e)
+    | inr same ↦ (
+      λ r. inl (relates rows r (sym same ∙ r.bit)),
+      λ h. elim h [ inl r ↦ relates now r (same ∙ r.bit) | inr e ↦ there a b e ],
+    )
+  ]
 
-pub pair-kept : (rows : Rows) (i t : ℕ) → length rows.mask ≡ 16 → i < 16 → t < 16 → (a b : ℕ) → Relates rows a b → Relates (rows_with rows i t) a b
-pair-kept rows i t whole from to a b r = elim (pair_or_other a b i t) [
-  | inl same ↦ subst (λ x. Relates (rows_with rows i t) x b) (sym same.0) (subst (λ y. Relates (rows_with rows i t) i y) (sym same.1) (pair-there rows i t whole from to))
-  | inr other ↦ record { from_below = r.from_below; to_below = r.to_below; bit = other_bit rows i t a b whole from to other ∙ r.bit }
-]
+  abbrev all : List Pair
+  all = pair i t ∷ pairs rows
 
-pub pair-only : (rows : Rows) (i t : ℕ) → length rows.mask ≡ 16 → i < 16 → t < 16 → (a b : ℕ) → Relates (rows_with rows i t) a b → Relates rows a b ⊎ ((a ≡ i) × (b ≡ t))
-pair-only rows i t whole from to a b r = elim (pair_or_other a b i t) [
-  | inl same ↦ inr same
-  | inr other ↦ inl (record { from_below = r.from_below; to_below = r.to_below; bit = sym (other_bit rows i t a b whole from to other) ∙ r.bit })
-]
+  pub added-pairs : HaveSamePairs (pairs now) all
+  added-pairs = HaveSamePairs-from now all (λ a b. (
+    λ r. Contains-from_In all (pair a b) (elim ((added a b).0 r) [
+      | inl h ↦ inr (In-from_Contains (pairs rows) (pair a b) ((pairs-bits rows a b).1 h))
+      | inr e ↦ let same : pair i t ≡ pair a b = cc in inl same
+    ]),
+    λ h. (added a b).1 (elim (In-from_Contains all (pair a b) h) [
+      | inl e ↦ inr (sym (ap (λ p. p.0) e), sym (ap (λ p. p.1) e))
+      | inr r ↦ inl ((pairs-bits rows a b).0 (Contains-from_In (pairs rows) (pair a b) r))
+    ]),
+  ))
 
-pub pair-pairs : (rows : Rows) (i t : ℕ) → length rows.mask ≡ 16 → i < 16 → t < 16 → HaveSamePairs (pairs (rows_with rows i t)) (pair i t ∷ pairs rows)
-pair-pairs rows i t whole from to p = (
-  λ h. elim (pair-only rows i t whole from to p.0 p.1 (Relates-from_pairs (rows_with rows i t) p.0 p.1 h)) [
-    | inl r ↦ Contains-later (pair i t) (pairs rows) p (Contains-pairs rows p.0 p.1 r)
-    | inr same ↦ subst (λ x. Contains (pair i t ∷ pairs rows) (pair x p.1)) (sym same.0) (subst (λ y. Contains (pair i t ∷ pairs rows) (pair i y)) (sym same.1) (Contains-here (pair i t) (pairs rows)))
-  ],
-  λ h. elim (Contains-cons_cases (pair i t) (pairs rows) p h) [
-    | inl e ↦ subst (λ q. Contains (pairs (rows_with rows i t)) q) e (Contains-pairs (rows_with rows i t) i t (pair-there rows i t whole from to))
-    | inr r ↦ Contains-pairs (rows_with rows i t) p.0 p.1 (pair-kept rows i t whole from to p.0 p.1 (Relates-from_pairs rows p.0 p.1 r))
-  ],
-)
+pub none : (i j : ℕ) → Relates (rows_of (replicate 16 0)) i j → ⊥
+none i j r = omega (arith, r.bit, ap (λ m. bit_at m j) (get_or-replicate 16 i 0 0 r.from_below), bit_at-zero j)
 
--- a relation without a pair has the empty list
-pub none-pairs : (rows : Rows) → ((i j : ℕ) → Relates rows i j → ⊥) → HaveSamePairs (pairs rows) []
-none-pairs rows none p = (λ h. absurd (none p.0 p.1 (Relates-from_pairs rows p.0 p.1 h)), λ h. absurd (Contains-nil p h))
-
-pub zeros-none : (i j : ℕ) → Relates (record { mask = replicate 16 0 }) i j → ⊥
-zeros-none i j r =
-    let zeros : List ℕ = replicate 16 0 in
-    let at : get_or zeros i 0 ≡ 0 = get_or-replicate 16 i 0 0 r.from_below in
-    let bit : bit_at (get_or zeros i 0) j ≡ 1 = r.bit in
-    no_bit (get_or zeros i 0) j at bit where
-      no_bit : (m j : ℕ) → m ≡ 0 → bit_at m j ≡ 1 → ⊥
-      no_bit m j zero bit = let none : bit_at m j ≡ 0 = ap (λ n. bit_at n j) zero ∙ bit_at-zero j in omega (arith, none, bit)
+pub none-pairs : HaveSamePairs (pairs (rows_of (replicate 16 0))) []
+none-pairs =
+    HaveSamePairs-from (rows_of (replicate 16 0)) []
+    (λ i j. (λ r. absurd (none i j r), λ h. absurd (In-from_Contains [] (pair i j) h)))

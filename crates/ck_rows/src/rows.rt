@@ -3,16 +3,21 @@ ghost use Rattle.std.specs.Prelude.{
   ◌≡◌,
   ◌≤◌,
   ◌<◌,
+  ◌*◌,
   ◌↔◌,
   ◌⊎◌,
   ◌++◌,
+  ◌^◌,
   ℕ,
   IsTrue,
+  map,
   slice_index,
   true,
   false,
 };
 ghost use Rattle.std.specs.Int.{bit_at};
+ghost use Rattle.std.specs.Int.Bits.{bit_or};
+ghost use Rattle.std.specs.Simd.Lanes.{zip2};
 ghost use Rattle.ck_rows.specs.Relation.{
   pairs,
   rows_of,
@@ -22,6 +27,8 @@ ghost use Rattle.ck_rows.specs.Relation.{
   Relates,
 };
 ghost use Rattle.ck_rows.specs.Room.{room};
+
+use std::simd::prelude::*;
 
 /// A relation on sixteen things, numbered from 0: bit j of `mask[i]` says that the pair (i, j) is in
 /// the relation.
@@ -41,17 +48,9 @@ pub fn union_into(into: &mut Rows, from: &Rows) -> bool
     ensures room { room into.new ≤ room into.old }
     ensures less_room { result ≡ true → room into.new < room into.old }
 {
-    let mut grew = false;
-    'masks: for i in 0..16 {
-        let had = into.mask[i];
-        let given = from.mask[i];
-        let has = had | given;
-        if has != had {
-            into.mask[i] = has;
-            grew = true;
-        }
-    }
-    grew
+    let had = into.mask;
+    into.mask = joined(u16x16::from_array(had), u16x16::from_array(from.mask)).to_array();
+    into.mask != had
 }
 
 /// The composition of two relations: (i, k) exactly where some j has (i, j) in `first` and (j, k) in
@@ -71,23 +70,29 @@ pub fn image(rows: &Rows, step: &[u16; 16]) -> Rows
     ensures composed { (i j k : ℕ) → Relates rows.now i j → Relates (rows_of step.now) j k → Relates result i k }
     ensures only { (i k : ℕ) → Relates result i k → (j : ℕ) × Relates rows.now i j × Relates (rows_of step.now) j k }
 {
-    let mut mask = [0u16; 16];
-    'masks: for i in 0..16 {
-        mask[i] = joined(rows.mask[i], step);
+    let chosen = u16x16::from_array(rows.mask);
+    let mut all = u16x16::splat(0);
+    'steps: for j in 0..16 {
+        all = joined_where(all, chosen, j, step[j as usize]);
     }
-    Rows { mask }
+    Rows {
+        mask: all.to_array(),
+    }
 }
 
-/// The masks for which `chosen` has a bit, joined into one.
-fn joined(chosen: u16, masks: &[u16; 16]) -> u16
-    ensures each { (j k : ℕ) → j < 16 → bit_at chosen j ≡ 1 → bit_at (slice_index masks.now j) k ≡ 1 → bit_at result k ≡ 1 }
-    ensures only { (k : ℕ) → bit_at result k ≡ 1 → (j : ℕ) × (j < 16) × (bit_at chosen j ≡ 1) × (bit_at (slice_index masks.now j) k ≡ 1) }
+/// The masks of two relations joined, lane by lane.
+fn joined(masks: u16x16, others: u16x16) -> u16x16
+    ensures lanes { result ≡ zip2 bit_or masks others }
+    ensures fits { (k : ℕ) → slice_index result k < 2 ^ 16 }
 {
-    let mut all = 0;
-    'masks: for j in 0..16 {
-        if (chosen >> j) & 1 == 1 {
-            all |= masks[j];
-        }
-    }
-    all
+    masks | others
+}
+
+/// The masks, with `step` joined to each of them where the mask of `chosen` in the same lane has bit `j`.
+fn joined_where(masks: u16x16, chosen: u16x16, j: u16, step: u16) -> u16x16
+    requires { j < 16 }
+    ensures { result ≡ zip2 bit_or masks (map (λ m. bit_at m j * step) chosen) }
+{
+    let bits = (chosen >> u16x16::splat(j)) & u16x16::splat(1);
+    masks | (bits * u16x16::splat(step))
 }

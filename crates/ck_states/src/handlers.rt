@@ -22,6 +22,7 @@ pub(crate) fn unlock_isr(state: State) -> Outcome
 {
     match state {
         State::HL => Outcome::Next(State::HO),
+        State::OX | State::ON => Outcome::Alarm(Kind::P(8)),
         _ => Outcome::Alarm(Kind::Sv(7)),
     }
 }
@@ -33,9 +34,10 @@ pub(crate) fn prologue(state: State) -> Outcome
 {
     match state {
         State::HB => Outcome::Next(State::HO),
-        State::TL | State::TP | State::HL => Outcome::Alarm(Kind::Sv(8)),
+        State::TI | State::TN | State::TS | State::TD => Outcome::Alarm(Kind::P(1)),
+        State::HO => Outcome::Alarm(Kind::P(1)),
         State::HE => Outcome::Alarm(Kind::P(2)),
-        _ => Outcome::Alarm(Kind::P(1)),
+        _ => Outcome::Alarm(Kind::Sv(8)),
     }
 }
 

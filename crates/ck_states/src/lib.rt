@@ -7,7 +7,9 @@
 //! It must not know: calls by name, graphs, other contexts, and the kernel's counters.
 #![tactic(auto)]
 
+mod classes;
 mod handlers;
+mod pairs;
 mod table;
 mod threads;
 

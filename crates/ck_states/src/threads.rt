@@ -11,8 +11,9 @@ pub(crate) fn init(state: State) -> Outcome
 {
     match state {
         State::TI => Outcome::Next(State::TN),
-        State::TN | State::TS | State::TD | State::TL | State::TP => Outcome::Alarm(Kind::P(4)),
-        _ => Outcome::Alarm(Kind::P(2)),
+        State::HB | State::HO | State::HL => Outcome::Alarm(Kind::P(2)),
+        State::HE | State::OX | State::ON => Outcome::Alarm(Kind::P(2)),
+        _ => Outcome::Alarm(Kind::P(4)),
     }
 }
 
@@ -23,9 +24,9 @@ pub(crate) fn disable(state: State) -> Outcome
 {
     match state {
         State::TN | State::TS | State::TD => Outcome::Next(State::TD),
-        State::TL | State::TP | State::HO | State::HL => Outcome::Alarm(Kind::Sv(1)),
         State::TI => Outcome::Alarm(Kind::P(4)),
-        _ => Outcome::Alarm(Kind::P(2)),
+        State::HB | State::HE => Outcome::Alarm(Kind::P(2)),
+        _ => Outcome::Alarm(Kind::Sv(1)),
     }
 }
 
@@ -36,9 +37,9 @@ pub(crate) fn suspend(state: State) -> Outcome
 {
     match state {
         State::TN | State::TS | State::TD => Outcome::Next(State::TS),
-        State::TL | State::TP | State::HO | State::HL => Outcome::Alarm(Kind::Sv(2)),
         State::TI => Outcome::Alarm(Kind::P(4)),
-        _ => Outcome::Alarm(Kind::P(2)),
+        State::HB | State::HE => Outcome::Alarm(Kind::P(2)),
+        _ => Outcome::Alarm(Kind::Sv(2)),
     }
 }
 
@@ -49,9 +50,9 @@ pub(crate) fn enable(state: State) -> Outcome
 {
     match state {
         State::TN | State::TS | State::TD => Outcome::Next(State::TN),
-        State::TL | State::TP | State::HO | State::HL => Outcome::Alarm(Kind::Sv(3)),
         State::TI => Outcome::Alarm(Kind::P(4)),
-        _ => Outcome::Alarm(Kind::P(2)),
+        State::HB | State::HE => Outcome::Alarm(Kind::P(2)),
+        _ => Outcome::Alarm(Kind::Sv(3)),
     }
 }
 
@@ -87,9 +88,9 @@ fn takes_the_lock(state: State, normally: Outcome) -> Outcome
 {
     match state {
         State::TN => normally,
-        State::TL | State::TP | State::HO | State::HL => Outcome::Alarm(Kind::Sv(4)),
         State::TI | State::TS | State::TD => Outcome::Alarm(Kind::P(4)),
-        _ => Outcome::Alarm(Kind::P(2)),
+        State::HB | State::HE => Outcome::Alarm(Kind::P(2)),
+        _ => Outcome::Alarm(Kind::Sv(4)),
     }
 }
 
@@ -100,7 +101,8 @@ pub(crate) fn unlock(state: State) -> Outcome
 {
     match state {
         State::TL => Outcome::Next(State::TN),
-        State::TP => Outcome::Alarm(Kind::Order),
+        State::TP | State::NP => Outcome::Alarm(Kind::Order),
+        State::XL | State::NL => Outcome::Alarm(Kind::P(8)),
         _ => Outcome::Alarm(Kind::Sv(5)),
     }
 }

@@ -1,7 +1,7 @@
 -- The views at the program's constructors, one equation per production.
 use Rattle.std.proofs.Common.{◌≡◌, Box, Vec, Option, refl, ap, ◌∙◌}
 use Rattle.ck_base.specs.declared.tokens.Token.{Token}
-use Rattle.ck_syntax.specs.Trees as plain
+use Rattle.ck_grammar.specs.Trees as plain
 use Rattle.ck_syntax.specs.ExpressionViews.{expr_tree, operand_trees, suffix_before, suffix_trees, specifier_before, specifier_trees, member_before, member_trees, last_enumerator, enumerator_before, enumerator_trees, declarator_tree, declarator_trees, dim_before, dim_trees, parameters_tree, parameter_row, parameter_trees, specifier_row, declarator_row, ellipsis_tree}
 use Rattle.ck_syntax.specs.declared.declarators.Declarator.{Declarator, Abstract, Named, Nested}
 use Rattle.ck_syntax.specs.declared.declarators.Declarator.TheBlock.{hidden-the_row-Specifier-1, hidden-the_row-NextParameter-2, hidden-the_row-NextDeclarator-7}
@@ -10,9 +10,9 @@ use Rattle.ck_syntax.specs.declared.declarators.Ellipsis.{Ellipsis}
 use Rattle.ck_syntax.specs.declared.declarators.NextDeclarator.{NextDeclarator}
 use Rattle.ck_syntax.specs.declared.declarators.NextParameter.{NextParameter}
 use Rattle.ck_syntax.specs.declared.declarators.Parameters.{Parameters, Empty, Void, Listed}
-use Rattle.ck_syntax.specs.declared.expressions.Expr.{Expr, Name, Constant, Strings, Paren, Suffixed, Prefixed, SizeofType, Cast, Chain, Choice, Assigned}
+use Rattle.ck_syntax.specs.declared.expressions.Expr.{Expr, Name, Constant, Strings, Paren, Postfix, Unary, SizeofType, Cast, Chain, Conditional, Assignment}
 use Rattle.ck_syntax.specs.declared.expressions.Operand.{Operand}
-use Rattle.ck_syntax.specs.declared.expressions.Suffix.{Suffix, Index, CallEmpty, Call, Access, Step}
+use Rattle.ck_syntax.specs.declared.expressions.Suffix.{Suffix, Index, CallEmpty, Call, MemberAccess, PostIncrement}
 use Rattle.ck_syntax.specs.declared.specifiers.Enumerator.{Enumerator, Plain, Valued}
 use Rattle.ck_syntax.specs.declared.specifiers.FrontEnumerator.{FrontEnumerator}
 use Rattle.ck_syntax.specs.declared.specifiers.Member.{Member, out-Member, roll-Member, rolls-Member', is-Member'}
@@ -35,13 +35,13 @@ pub expr_tree-Paren : {A : Type 0} (opening : Token) (inner : Box (Expr A) A) (c
 unfolding expr_tree
 expr_tree-Paren opening inner closing = refl
 
-pub expr_tree-Suffixed : {A : Type 0} (primary : Box (Expr A) A) (suffixes : Vec (Suffix A) A) → expr_tree (Suffixed primary suffixes) ≡ plain.Suffixed (expr_tree primary.value) (suffix_trees suffixes.items)
+pub expr_tree-Postfix : {A : Type 0} (primary : Box (Expr A) A) (suffixes : Vec (Suffix A) A) → expr_tree (Postfix primary suffixes) ≡ plain.Postfix (expr_tree primary.value) (suffix_trees suffixes.items)
 unfolding expr_tree
-expr_tree-Suffixed primary suffixes = ap (plain.Suffixed (expr_tree primary.value)) (suffix_row-hidden suffixes)
+expr_tree-Postfix primary suffixes = ap (plain.Postfix (expr_tree primary.value)) (suffix_row-hidden suffixes)
 
-pub expr_tree-Prefixed : {A : Type 0} (operator : Token) (operand : Box (Expr A) A) → expr_tree (Prefixed operator operand) ≡ plain.Prefixed operator (expr_tree operand.value)
+pub expr_tree-Unary : {A : Type 0} (operator : Token) (operand : Box (Expr A) A) → expr_tree (Unary operator operand) ≡ plain.Unary operator (expr_tree operand.value)
 unfolding expr_tree
-expr_tree-Prefixed operator operand = refl
+expr_tree-Unary operator operand = refl
 
 pub expr_tree-SizeofType : {A : Type 0} (keyword : Token) (opening : Token) (specifiers : Vec (Specifier A) A) (declarator : Box (Declarator A) A) (closing : Token) → expr_tree (SizeofType keyword opening specifiers declarator closing) ≡ plain.SizeofType keyword opening (specifier_trees specifiers.items) (declarator_tree declarator.value) closing
 unfolding expr_tree
@@ -55,13 +55,13 @@ pub expr_tree-Chain : {A : Type 0} (first : Box (Expr A) A) (operands : Vec (Ope
 unfolding expr_tree
 expr_tree-Chain first operands = ap (plain.Chain (expr_tree first.value)) (operand_row-hidden operands)
 
-pub expr_tree-Choice : {A : Type 0} (test : Box (Expr A) A) (question : Token) (then : Box (Expr A) A) (colon : Token) (otherwise : Box (Expr A) A) → expr_tree (Choice test question then colon otherwise) ≡ plain.Choice (expr_tree test.value) question (expr_tree then.value) colon (expr_tree otherwise.value)
+pub expr_tree-Conditional : {A : Type 0} (test : Box (Expr A) A) (question : Token) (then : Box (Expr A) A) (colon : Token) (otherwise : Box (Expr A) A) → expr_tree (Conditional test question then colon otherwise) ≡ plain.Conditional (expr_tree test.value) question (expr_tree then.value) colon (expr_tree otherwise.value)
 unfolding expr_tree
-expr_tree-Choice test question then colon otherwise = refl
+expr_tree-Conditional test question then colon otherwise = refl
 
-pub expr_tree-Assigned : {A : Type 0} (target : Box (Expr A) A) (operator : Token) (value : Box (Expr A) A) → expr_tree (Assigned target operator value) ≡ plain.Assigned (expr_tree target.value) operator (expr_tree value.value)
+pub expr_tree-Assignment : {A : Type 0} (target : Box (Expr A) A) (operator : Token) (value : Box (Expr A) A) → expr_tree (Assignment target operator value) ≡ plain.Assignment (expr_tree target.value) operator (expr_tree value.value)
 unfolding expr_tree
-expr_tree-Assigned target operator value = refl
+expr_tree-Assignment target operator value = refl
 
 pub suffix_before-Index : {A : Type 0} (opening : Token) (index : Expr A) (closing : Token) → suffix_before (Index opening index closing) ≡ plain.Index opening (expr_tree index) closing
 unfolding expr_tree
@@ -75,13 +75,13 @@ pub suffix_before-Call : {A : Type 0} (opening : Token) (first : Expr A) (others
 unfolding expr_tree
 suffix_before-Call opening first others closing = ap (λ os. plain.Call opening (expr_tree first) os closing) (operand_row-hidden others)
 
-pub suffix_before-Access : (A : Type 0) (operator : Token) (member : Token) → suffix_before {A = A} (Access operator member) ≡ plain.Access operator member
+pub suffix_before-MemberAccess : (A : Type 0) (operator : Token) (member : Token) → suffix_before {A = A} (MemberAccess operator member) ≡ plain.MemberAccess operator member
 unfolding expr_tree
-suffix_before-Access A operator member = refl
+suffix_before-MemberAccess A operator member = refl
 
-pub suffix_before-Step : (A : Type 0) (operator : Token) → suffix_before {A = A} (Step operator) ≡ plain.Step operator
+pub suffix_before-PostIncrement : (A : Type 0) (operator : Token) → suffix_before {A = A} (PostIncrement operator) ≡ plain.PostIncrement operator
 unfolding expr_tree
-suffix_before-Step A operator = refl
+suffix_before-PostIncrement A operator = refl
 
 pub specifier_before-Word : (A : Type 0) (token : Token) → specifier_before {A = A} (Word token) ≡ plain.Word token
 unfolding expr_tree

@@ -1,7 +1,7 @@
 -- How an expression's first token follows from a part's.
 use Rattle.std.proofs.Common.{◌≡◌, subst, sym}
 use Rattle.ck_base.specs.declared.tokens.Token.{Token}
-use Rattle.ck_syntax.specs.Trees as plain
+use Rattle.ck_grammar.specs.Trees as plain
 use Rattle.ck_syntax.specs.FirstTokens.{IsFirst}
 
 -- equal trees begin with one token

@@ -1,7 +1,7 @@
 -- The views of initialisers at the program's constructors, one equation per production.
 use Rattle.std.proofs.Common.{◌≡◌, Box, Vec, Option, refl, ap, ◌∙◌}
 use Rattle.ck_base.specs.declared.tokens.Token.{Token}
-use Rattle.ck_syntax.specs.Statements as plain
+use Rattle.ck_grammar.specs.Statements as plain
 use Rattle.ck_syntax.specs.ExpressionViews.{expr_tree}
 use Rattle.ck_syntax.specs.InitialiserViews.{designation_option, init_tree, init_row, init_trees}
 use Rattle.ck_syntax.specs.declared.expressions.Expr.{Expr}

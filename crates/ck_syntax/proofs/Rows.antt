@@ -1,6 +1,6 @@
 -- A vector inside a tree is a row of the tree's data; here each row is seen as the list of its elements.
 use Rattle.std.proofs.Common.{◌≡◌, Vec, refl, ap, sym, ◌∙◌}
-use Rattle.ck_syntax.specs.Trees as plain
+use Rattle.ck_grammar.specs.Trees as plain
 use Rattle.ck_syntax.specs.Rows.{in_front}
 use Rattle.ck_syntax.specs.ExpressionViews.{expr_tree, declarator_tree, operand_row, operand_trees, suffix_row, suffix_before, suffix_trees, specifier_row, specifier_before, specifier_trees, member_row, member_before, member_trees, declarator_row, declarator_trees, dim_row, dim_before, dim_trees, parameter_row, parameter_before, enumerator_row, enumerator_before, front_enumerator_before}
 use Rattle.ck_syntax.specs.declared.declarators.Declarator.{Row_of-Dim, end_of-Dim, more_of-Dim, items-the_row-Dim, items_hidden-the_row-Dim-0}

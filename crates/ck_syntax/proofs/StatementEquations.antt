@@ -1,26 +1,26 @@
 -- The views of statements at the program's constructors, one equation per production.
 use Rattle.std.proofs.Common.{◌≡◌, Box, Vec, Option, refl, ap, ◌∙◌}
 use Rattle.ck_base.specs.declared.tokens.Token.{Token}
-use Rattle.ck_syntax.specs.Statements as plain
+use Rattle.ck_grammar.specs.Statements as plain
 use Rattle.ck_syntax.specs.DeclarationViews.{declaration_tree, for_start_tree}
 use Rattle.ck_syntax.specs.ExpressionViews.{expr_tree}
 use Rattle.ck_syntax.specs.StatementViews.{statement_tree, item_before, item_row, item_trees, expr_option}
 use Rattle.ck_syntax.specs.declared.declarations.Decl.{Decl}
 use Rattle.ck_syntax.specs.declared.declarations.ForStart.{ForStart}
 use Rattle.ck_syntax.specs.declared.expressions.Expr.{Expr}
-use Rattle.ck_syntax.specs.declared.statements.Item.{Item, Declaring, Doing}
-use Rattle.ck_syntax.specs.declared.statements.Item.TheBlock.{hidden-the_row-Item-0}
-use Rattle.ck_syntax.specs.declared.statements.Stmt.{Stmt, Block, Empty, Evaluates, If, IfElse, Switch, While, Do, For, Case, Default, Label, Goto, Leave, Return, ReturnValue, Row_of-Item, end_of-Item, more_of-Item, items-the_row-Item, items_hidden-the_row-Item-0}
+use Rattle.ck_syntax.specs.declared.statements.BlockItem.{BlockItem, DeclarationItem, StatementItem}
+use Rattle.ck_syntax.specs.declared.statements.BlockItem.TheBlock.{hidden-the_row-BlockItem-0}
+use Rattle.ck_syntax.specs.declared.statements.Stmt.{Stmt, Block, Empty, ExpressionStatement, If, IfElse, Switch, While, Do, For, Case, Default, Label, Goto, Jump, Return, ReturnValue, Row_of-BlockItem, end_of-BlockItem, more_of-BlockItem, items-the_row-BlockItem, items_hidden-the_row-BlockItem-0}
 
-item_row-items : {A : Type 0} (n : _) (k : Row_of-Item A n) → item_row k ≡ item_trees (items-the_row-Item A n k)
+item_row-items : {A : Type 0} (n : _) (k : Row_of-BlockItem A n) → item_row k ≡ item_trees (items-the_row-BlockItem A n k)
 unfolding statement_tree
-item_row-items _ end_of-Item = refl
-item_row-items {A} _ (more_of-Item {n} item others) = ap (item_before item) (item_row-items n others)
+item_row-items _ end_of-BlockItem = refl
+item_row-items {A} _ (more_of-BlockItem {n} item others) = ap (item_before item) (item_row-items n others)
 
-item_row-hidden : {A : Type 0} (v : Vec (Item A) A) → item_row (hidden-the_row-Item-0 A v) ≡ item_trees v.items
-item_row-hidden {A} v = item_row-items _ (hidden-the_row-Item-0 A v) ∙ ap item_trees (items_hidden-the_row-Item-0 A v)
+item_row-hidden : {A : Type 0} (v : Vec (BlockItem A) A) → item_row (hidden-the_row-BlockItem-0 A v) ≡ item_trees v.items
+item_row-hidden {A} v = item_row-items _ (hidden-the_row-BlockItem-0 A v) ∙ ap item_trees (items_hidden-the_row-BlockItem-0 A v)
 
-pub statement_tree-Block : {A : Type 0} (opening : Token) (items : Vec (Item A) A) (closing : Token) → statement_tree (Block opening items closing) ≡ plain.Block opening (item_trees items.items) closing
+pub statement_tree-Block : {A : Type 0} (opening : Token) (items : Vec (BlockItem A) A) (closing : Token) → statement_tree (Block opening items closing) ≡ plain.Block opening (item_trees items.items) closing
 unfolding statement_tree
 statement_tree-Block opening items closing = ap (λ is. plain.Block opening is closing) (item_row-hidden items)
 
@@ -28,9 +28,9 @@ pub statement_tree-Empty : (A : Type 0) (semicolon : Token) → statement_tree {
 unfolding statement_tree
 statement_tree-Empty A semicolon = refl
 
-pub statement_tree-Evaluates : {A : Type 0} (expr : Expr A) (semicolon : Token) → statement_tree (Evaluates expr semicolon) ≡ plain.Evaluates (expr_tree expr) semicolon
+pub statement_tree-ExpressionStatement : {A : Type 0} (expr : Expr A) (semicolon : Token) → statement_tree (ExpressionStatement expr semicolon) ≡ plain.ExpressionStatement (expr_tree expr) semicolon
 unfolding statement_tree
-statement_tree-Evaluates expr semicolon = refl
+statement_tree-ExpressionStatement expr semicolon = refl
 
 pub statement_tree-If : {A : Type 0} (keyword : Token) (opening : Token) (test : Expr A) (closing : Token) (then : Box (Stmt A) A) → statement_tree (If keyword opening test closing then) ≡ plain.If keyword opening (expr_tree test) closing (statement_tree then.value)
 unfolding statement_tree
@@ -72,9 +72,9 @@ pub statement_tree-Goto : (A : Type 0) (keyword : Token) (name : Token) (semicol
 unfolding statement_tree
 statement_tree-Goto A keyword name semicolon = refl
 
-pub statement_tree-Leave : (A : Type 0) (keyword : Token) (semicolon : Token) → statement_tree {A = A} (Leave keyword semicolon) ≡ plain.Leave keyword semicolon
+pub statement_tree-Jump : (A : Type 0) (keyword : Token) (semicolon : Token) → statement_tree {A = A} (Jump keyword semicolon) ≡ plain.Jump keyword semicolon
 unfolding statement_tree
-statement_tree-Leave A keyword semicolon = refl
+statement_tree-Jump A keyword semicolon = refl
 
 pub statement_tree-Return : (A : Type 0) (keyword : Token) (semicolon : Token) → statement_tree {A = A} (Return keyword semicolon) ≡ plain.Return keyword semicolon
 unfolding statement_tree
@@ -84,10 +84,10 @@ pub statement_tree-ReturnValue : {A : Type 0} (keyword : Token) (value : Expr A)
 unfolding statement_tree
 statement_tree-ReturnValue keyword value semicolon = refl
 
-pub item_before-Declaring : {A : Type 0} (declaration : Decl A) → item_before (Declaring declaration) ≡ plain.Declaring (declaration_tree declaration)
+pub item_before-DeclarationItem : {A : Type 0} (declaration : Decl A) → item_before (DeclarationItem declaration) ≡ plain.DeclarationItem (declaration_tree declaration)
 unfolding statement_tree
-item_before-Declaring declaration = refl
+item_before-DeclarationItem declaration = refl
 
-pub item_before-Doing : {A : Type 0} (statement : Stmt A) → item_before (Doing statement) ≡ plain.Doing (statement_tree statement)
+pub item_before-StatementItem : {A : Type 0} (statement : Stmt A) → item_before (StatementItem statement) ≡ plain.StatementItem (statement_tree statement)
 unfolding statement_tree
-item_before-Doing statement = refl
+item_before-StatementItem statement = refl

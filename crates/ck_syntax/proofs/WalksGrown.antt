@@ -4,13 +4,13 @@ use Rattle.std.proofs.lemmas.List.{append-nil}
 use Rattle.std.proofs.lemmas.Result.{IfOk-weaker}
 use Rattle.std.proofs.Math.Seq.{drop-cons, drop-length}
 use Rattle.std.specs.Borrow.{Bor}
-use Rattle.ck_syntax.specs.Trees as plain
+use Rattle.ck_grammar.specs.Trees as plain
 use Rattle.ck_syntax.specs.ExpressionViews.{expr_tree, operand_trees, suffix_before, suffix_trees}
 use Rattle.ck_syntax.specs.Parts.{children, of_operands, of_suffixes, subexpressions, in_operands, in_suffixes}
 use Rattle.ck_syntax.specs.Walks.{trees_of, Grew}
 use Rattle.ck_syntax.specs.declared.expressions.Expr.{Expr}
 use Rattle.ck_syntax.specs.declared.expressions.Operand.{Operand}
-use Rattle.ck_syntax.specs.declared.expressions.Suffix.{Suffix, Index, CallEmpty, Call', Access, Step}
+use Rattle.ck_syntax.specs.declared.expressions.Suffix.{Suffix, Index, CallEmpty, Call', MemberAccess, PostIncrement}
 
 -- the expressions of operands, and of suffixes, in front of others
 abbrev pub operands_front : {A : Type 0} → List (Operand A) → List plain.Expr → List plain.Expr
@@ -76,8 +76,8 @@ unfolding expr_tree
 of_suffixes-before (Index opening index closing) rest more = refl
 of_suffixes-before (CallEmpty opening closing) rest more = refl
 of_suffixes-before (Call' opening first q arguments closing) rest more = refl
-of_suffixes-before (Access operator member) rest more = refl
-of_suffixes-before (Step operator) rest more = refl
+of_suffixes-before (MemberAccess operator member) rest more = refl
+of_suffixes-before (PostIncrement operator) rest more = refl
 
 -- a list that grew twice
 pub grew_twice : {A : Type 0} (before now after : List (Bor (Expr A))) (f g : List plain.Expr → List plain.Expr) → Grew before now f → Grew now after g → Grew before after (λ more. f (g more))
@@ -103,8 +103,8 @@ of_suffixes-append plain.NoSuffixes es more = refl
 of_suffixes-append (plain.Index o e c rest) es more = ap (λ l. e ∷ l) (of_suffixes-append rest es more)
 of_suffixes-append (plain.CallEmpty o c rest) es more = of_suffixes-append rest es more
 of_suffixes-append (plain.Call o e ops c rest) es more = ap (λ l. e ∷ l) (of_operands-append ops (of_suffixes rest es) more ∙ ap (of_operands ops) (of_suffixes-append rest es more))
-of_suffixes-append (plain.Access t n rest) es more = of_suffixes-append rest es more
-of_suffixes-append (plain.Step t rest) es more = of_suffixes-append rest es more
+of_suffixes-append (plain.MemberAccess t n rest) es more = of_suffixes-append rest es more
+of_suffixes-append (plain.PostIncrement t rest) es more = of_suffixes-append rest es more
 
 -- a list that was empty
 pub grew_all : {A : Type 0} (before after : List (Bor (Expr A))) (f : List plain.Expr → List plain.Expr) → before ≡ [] → Grew before after f → trees_of after ≡ f []
@@ -116,5 +116,5 @@ unfolding expr_tree
 in_suffixes-before (Index opening index closing) rest more = refl
 in_suffixes-before (CallEmpty opening closing) rest more = refl
 in_suffixes-before (Call' opening first q arguments closing) rest more = refl
-in_suffixes-before (Access operator member) rest more = refl
-in_suffixes-before (Step operator) rest more = refl
+in_suffixes-before (MemberAccess operator member) rest more = refl
+in_suffixes-before (PostIncrement operator) rest more = refl

@@ -1,7 +1,7 @@
 -- The plain trees that declarations stand for, and what `for` begins with.
 use Rattle.std.specs.Prelude.{List, Option, None, Some}
 use Rattle.ck_base.specs.declared.tokens.Token.{Token}
-use Rattle.ck_syntax.specs.Statements as plain
+use Rattle.ck_grammar.specs.Statements as plain
 use Rattle.ck_syntax.specs.ExpressionViews.{expr_tree, declarator_tree, specifier_trees}
 use Rattle.ck_syntax.specs.InitialiserViews.{init_tree}
 use Rattle.ck_syntax.specs.Rows.{in_front}
@@ -35,5 +35,5 @@ declaration_tree (Declares specifiers declarator initialiser others semicolon) =
 
 abbrev pub for_start_tree : {A : Type 0} → ForStart A → plain.ForStart
 for_start_tree (start.Empty semicolon) = plain.StartEmpty semicolon
-for_start_tree (start.Evaluates expr semicolon) = plain.StartExpr (expr_tree expr) semicolon
+for_start_tree (start.ExpressionStatement expr semicolon) = plain.StartExpr (expr_tree expr) semicolon
 for_start_tree (start.Declares declaration) = plain.StartDeclaration (declaration_tree declaration)

@@ -2,16 +2,16 @@
 -- left out: `p`, `q` and `r` are a box's or a vector's own parts.
 use Rattle.std.specs.Prelude.{List, Option, None, Some}
 use Rattle.ck_base.specs.declared.tokens.Token.{Token}
-use Rattle.ck_syntax.specs.Trees as plain
+use Rattle.ck_grammar.specs.Trees as plain
 use Rattle.ck_syntax.specs.declared.declarators.Declarator.{Declarator, Abstract', Named', Nested', Row_of-Dim, end_of-Dim, more_of-Dim}
 use Rattle.ck_syntax.specs.declared.declarators.Dim.{Dim, Open, Sized, Function}
 use Rattle.ck_syntax.specs.declared.declarators.Ellipsis.{Ellipsis}
 use Rattle.ck_syntax.specs.declared.declarators.NextDeclarator.{NextDeclarator}
 use Rattle.ck_syntax.specs.declared.declarators.NextParameter.{NextParameter}
 use Rattle.ck_syntax.specs.declared.declarators.Parameters.{Parameters, Empty, Void, Listed', Row_of-NextParameter, end_of-NextParameter, more_of-NextParameter}
-use Rattle.ck_syntax.specs.declared.expressions.Expr.{Expr, Name, Constant, Strings, Paren', Suffixed', Prefixed', SizeofType', Cast', Chain', Choice', Assigned', Row_of-Operand, end_of-Operand, more_of-Operand, Row_of-Suffix, end_of-Suffix, more_of-Suffix, Row_of-Specifier, end_of-Specifier, more_of-Specifier}
+use Rattle.ck_syntax.specs.declared.expressions.Expr.{Expr, Name, Constant, Strings, Paren', Postfix', Unary', SizeofType', Cast', Chain', Conditional', Assignment', Row_of-Operand, end_of-Operand, more_of-Operand, Row_of-Suffix, end_of-Suffix, more_of-Suffix, Row_of-Specifier, end_of-Specifier, more_of-Specifier}
 use Rattle.ck_syntax.specs.declared.expressions.Operand.{Operand}
-use Rattle.ck_syntax.specs.declared.expressions.Suffix.{Suffix, Index, CallEmpty, Call', Access, Step}
+use Rattle.ck_syntax.specs.declared.expressions.Suffix.{Suffix, Index, CallEmpty, Call', MemberAccess, PostIncrement}
 use Rattle.ck_syntax.specs.declared.specifiers.Enumerator.{Enumerator, Plain, Valued}
 use Rattle.ck_syntax.specs.declared.specifiers.FrontEnumerator.{FrontEnumerator}
 use Rattle.ck_syntax.specs.declared.specifiers.Member.{Member, Member', Row_of-NextDeclarator, end_of-NextDeclarator, more_of-NextDeclarator}
@@ -29,13 +29,13 @@ unfoldable mutual
   expr_tree (Constant token) = plain.Constant token
   expr_tree (Strings first others) = plain.Strings first others.items
   expr_tree (Paren' opening p inner closing) = plain.Paren opening (expr_tree inner) closing
-  expr_tree (Suffixed' p primary q suffixes) = plain.Suffixed (expr_tree primary) (suffix_row suffixes)
-  expr_tree (Prefixed' operator p operand) = plain.Prefixed operator (expr_tree operand)
+  expr_tree (Postfix' p primary q suffixes) = plain.Postfix (expr_tree primary) (suffix_row suffixes)
+  expr_tree (Unary' operator p operand) = plain.Unary operator (expr_tree operand)
   expr_tree (SizeofType' keyword opening q specifiers p declarator closing) = plain.SizeofType keyword opening (specifier_row specifiers) (declarator_tree declarator) closing
   expr_tree (Cast' opening q specifiers p declarator closing r operand) = plain.Cast opening (specifier_row specifiers) (declarator_tree declarator) closing (expr_tree operand)
   expr_tree (Chain' p first q operands) = plain.Chain (expr_tree first) (operand_row operands)
-  expr_tree (Choice' p test question q then colon r otherwise) = plain.Choice (expr_tree test) question (expr_tree then) colon (expr_tree otherwise)
-  expr_tree (Assigned' p target operator q value) = plain.Assigned (expr_tree target) operator (expr_tree value)
+  expr_tree (Conditional' p test question q then colon r otherwise) = plain.Conditional (expr_tree test) question (expr_tree then) colon (expr_tree otherwise)
+  expr_tree (Assignment' p target operator q value) = plain.Assignment (expr_tree target) operator (expr_tree value)
 
   pub operand_row : {A : Type 0} → {n : _} → Row_of-Operand A n → plain.Operands
   operand_row end_of-Operand = plain.NoOperands
@@ -46,8 +46,8 @@ unfoldable mutual
   suffix_before (Index opening index closing) others = plain.Index opening (expr_tree index) closing others
   suffix_before (CallEmpty opening closing) others = plain.CallEmpty opening closing others
   suffix_before (Call' opening first q arguments closing) others = plain.Call opening (expr_tree first) (operand_row arguments) closing others
-  suffix_before (Access operator member) others = plain.Access operator member others
-  suffix_before (Step operator) others = plain.Step operator others
+  suffix_before (MemberAccess operator member) others = plain.MemberAccess operator member others
+  suffix_before (PostIncrement operator) others = plain.PostIncrement operator others
 
   pub suffix_row : {A : Type 0} → {n : _} → Row_of-Suffix A n → plain.Suffixes
   suffix_row end_of-Suffix = plain.NoSuffixes

@@ -1,7 +1,7 @@
 -- The plain trees that initialisers and designators stand for. Memory is left out: `p` and `q` are a box's or a vector's
 -- own parts.
 use Rattle.std.specs.Prelude.{List, Option, None, Some}
-use Rattle.ck_syntax.specs.Statements as plain
+use Rattle.ck_grammar.specs.Statements as plain
 use Rattle.ck_syntax.specs.ExpressionViews.{expr_tree}
 use Rattle.ck_syntax.specs.Rows.{in_front}
 use Rattle.ck_syntax.specs.declared.initialisers.Designation.{Designation}

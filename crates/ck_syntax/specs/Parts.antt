@@ -2,9 +2,9 @@
 -- (C99 6.5.2.2, 6.5.3.4); and of a type, the expressions that it is written with.
 use Rattle.std.specs.Prelude.{Bool, true, false, ◌||◌, List, [], ◌∷◌, if◌then◌else◌}
 use Rattle.ck_base.specs.declared.tokens.Token.{Token}
-use Rattle.ck_syntax.specs.Trees.{Expr, Operands, Suffixes, Specifiers, Members, Declarators, Declarator, Dims, Params, MoreParams, Enumerators, Name, Constant, Strings, Paren, Suffixed, Prefixed, SizeofType, Cast, Chain, Choice, Assigned, NoOperands, Operand, NoSuffixes, Index, CallEmpty, Call, Access, Step, NoSpecifiers, TypedefName, Tagged, Struct, Enum, NoMembers, Member, NoDeclarators, Also, Abstract, Named, Nested, NoDims, Open, Sized, Function, NoParams, VoidParams, Parameters, NoMore, Ellipsis, More, LastOne, LastValued, One, Valued}
-use Rattle.ck_syntax.specs.Trees as trees
-use Rattle.ck_syntax.specs.Words.{Word, Lead, SizeofLead, lead}
+use Rattle.ck_grammar.specs.Trees.{Expr, Operands, Suffixes, Specifiers, Members, Declarators, Declarator, Dims, Params, MoreParams, Enumerators, Name, Constant, Strings, Paren, Postfix, Unary, SizeofType, Cast, Chain, Conditional, Assignment, NoOperands, Operand, NoSuffixes, Index, CallEmpty, Call, MemberAccess, PostIncrement, NoSpecifiers, TypedefName, Tagged, Struct, Enum, NoMembers, Member, NoDeclarators, Also, Abstract, Named, Nested, NoDims, Open, Sized, Function, NoParams, VoidParams, Parameters, NoMore, Ellipsis, More, LastOne, LastValued, One, Valued}
+use Rattle.ck_grammar.specs.Trees as trees
+use Rattle.ck_grammar.specs.Words.{Word, Lead, SizeofLead, lead}
 
 -- the expressions of operands and of suffixes, and more behind them
 abbrev pub of_operands : Operands → List Expr → List Expr
@@ -16,8 +16,8 @@ of_suffixes NoSuffixes more = more
 of_suffixes (Index o e c rest) more = e ∷ of_suffixes rest more
 of_suffixes (CallEmpty o c rest) more = of_suffixes rest more
 of_suffixes (Call o e ops c rest) more = e ∷ of_operands ops (of_suffixes rest more)
-of_suffixes (Access t n rest) more = of_suffixes rest more
-of_suffixes (Step t rest) more = of_suffixes rest more
+of_suffixes (MemberAccess t n rest) more = of_suffixes rest more
+of_suffixes (PostIncrement t rest) more = of_suffixes rest more
 
 -- the sizes of arrays and the values of enumerators that a type is written with
 abbrev mutual
@@ -70,13 +70,13 @@ children (Name t) = []
 children (Constant t) = []
 children (Strings t ts) = []
 children (Paren o e c) = e ∷ []
-children (Suffixed e s) = e ∷ of_suffixes s []
-children (Prefixed op e) = e ∷ []
+children (Postfix e s) = e ∷ of_suffixes s []
+children (Unary op e) = e ∷ []
 children (SizeofType k o s d c) = []
 children (Cast o s d c e) = e ∷ []
 children (Chain e ops) = e ∷ of_operands ops []
-children (Choice e q a c b) = e ∷ a ∷ b ∷ []
-children (Assigned e op b) = e ∷ b ∷ []
+children (Conditional e q a c b) = e ∷ a ∷ b ∷ []
+children (Assignment e op b) = e ∷ b ∷ []
 
 -- all expressions inside an expression and it itself, each once: operands from left to right, and behind them what they are the
 -- operands of
@@ -86,13 +86,13 @@ abbrev mutual
   subexpressions (Constant t) more = Constant t ∷ more
   subexpressions (Strings t ts) more = Strings t ts ∷ more
   subexpressions (Paren o e c) more = subexpressions e (Paren o e c ∷ more)
-  subexpressions (Suffixed e s) more = subexpressions e (in_suffixes s (Suffixed e s ∷ more))
-  subexpressions (Prefixed op e) more = subexpressions e (Prefixed op e ∷ more)
+  subexpressions (Postfix e s) more = subexpressions e (in_suffixes s (Postfix e s ∷ more))
+  subexpressions (Unary op e) more = subexpressions e (Unary op e ∷ more)
   subexpressions (SizeofType k o s d c) more = SizeofType k o s d c ∷ more
   subexpressions (Cast o s d c e) more = subexpressions e (Cast o s d c e ∷ more)
   subexpressions (Chain e ops) more = subexpressions e (in_operands ops (Chain e ops ∷ more))
-  subexpressions (Choice e q a c b) more = subexpressions e (subexpressions a (subexpressions b (Choice e q a c b ∷ more)))
-  subexpressions (Assigned e op b) more = subexpressions e (subexpressions b (Assigned e op b ∷ more))
+  subexpressions (Conditional e q a c b) more = subexpressions e (subexpressions a (subexpressions b (Conditional e q a c b ∷ more)))
+  subexpressions (Assignment e op b) more = subexpressions e (subexpressions b (Assignment e op b ∷ more))
 
   pub in_operands : Operands → List Expr → List Expr
   in_operands NoOperands more = more
@@ -103,8 +103,8 @@ abbrev mutual
   in_suffixes (Index o e c rest) more = subexpressions e (in_suffixes rest more)
   in_suffixes (CallEmpty o c rest) more = in_suffixes rest more
   in_suffixes (Call o e ops c rest) more = subexpressions e (in_operands ops (in_suffixes rest more))
-  in_suffixes (Access t n rest) more = in_suffixes rest more
-  in_suffixes (Step t rest) more = in_suffixes rest more
+  in_suffixes (MemberAccess t n rest) more = in_suffixes rest more
+  in_suffixes (PostIncrement t rest) more = in_suffixes rest more
 
 abbrev pub is_sizeof : Lead → Bool
 is_sizeof SizeofLead = true
@@ -118,13 +118,13 @@ abbrev mutual
   holds_call w (Constant t) = false
   holds_call w (Strings t ts) = false
   holds_call w (Paren o e c) = holds_call w e
-  holds_call w (Suffixed e s) = holds_call w e || suffixes_hold_call w s
-  holds_call w (Prefixed op e) = if is_sizeof (lead (w op)) then false else holds_call w e
+  holds_call w (Postfix e s) = holds_call w e || suffixes_hold_call w s
+  holds_call w (Unary op e) = if is_sizeof (lead (w op)) then false else holds_call w e
   holds_call w (SizeofType k o s d c) = false
   holds_call w (Cast o s d c e) = holds_call w e
   holds_call w (Chain e ops) = holds_call w e || operands_hold_call w ops
-  holds_call w (Choice e q a c b) = holds_call w e || holds_call w a || holds_call w b
-  holds_call w (Assigned e op b) = holds_call w e || holds_call w b
+  holds_call w (Conditional e q a c b) = holds_call w e || holds_call w a || holds_call w b
+  holds_call w (Assignment e op b) = holds_call w e || holds_call w b
 
   pub operands_hold_call : (Token → Word) → Operands → Bool
   operands_hold_call w NoOperands = false
@@ -135,5 +135,5 @@ abbrev mutual
   suffixes_hold_call w (Index o e c rest) = holds_call w e || suffixes_hold_call w rest
   suffixes_hold_call w (CallEmpty o c rest) = true
   suffixes_hold_call w (Call o e ops c rest) = true
-  suffixes_hold_call w (Access t n rest) = suffixes_hold_call w rest
-  suffixes_hold_call w (Step t rest) = suffixes_hold_call w rest
+  suffixes_hold_call w (MemberAccess t n rest) = suffixes_hold_call w rest
+  suffixes_hold_call w (PostIncrement t rest) = suffixes_hold_call w rest

@@ -1,6 +1,6 @@
 //! Declarations, and what `for` begins with: the types, and a builder for each production.
 ghost use Rattle.std.specs.Prelude.{◌≡◌};
-ghost use Rattle.ck_syntax.specs.Statements as plain;
+ghost use Rattle.ck_grammar.specs.Statements as plain;
 ghost use Rattle.ck_syntax.specs.ExpressionViews.{expr_tree, declarator_tree, specifier_trees};
 ghost use Rattle.ck_syntax.specs.InitialiserViews.{init_tree};
 ghost use Rattle.ck_syntax.specs.DeclarationViews.{declared_before, declared_trees, declared_tree, declaration_tree, for_start_tree, initialised_before};
@@ -49,7 +49,7 @@ pub enum ForStart<A: Allocator> {
     /// `;`
     Empty(Token),
     /// expression `;`
-    Evaluates { expr: Expr<A>, semicolon: Token },
+    ExpressionStatement { expr: Expr<A>, semicolon: Token },
     /// A declaration.
     Declares(Decl<A>),
 }
@@ -59,7 +59,7 @@ impl<A: Allocator> Drop for ForStart<A> {
     fn drop(self) {
         match self {
             ForStart::Empty(_held) => {}
-            ForStart::Evaluates {
+            ForStart::ExpressionStatement {
                 expr: _expr,
                 semicolon: _semicolon,
             } => {}
@@ -149,7 +149,7 @@ impl<A: Allocator> ForStart<A> {
     pub fn evaluates(expr: Expr<A>, semicolon: Token) -> ForStart<A>
         ensures { for_start_tree result ≡ plain.StartExpr (expr_tree expr) semicolon }
     {
-        ForStart::Evaluates { expr, semicolon }
+        ForStart::ExpressionStatement { expr, semicolon }
     }
 
     /// A declaration.

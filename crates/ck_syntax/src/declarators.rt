@@ -1,6 +1,6 @@
 //! Declarators and parameters: the types, and a builder for each production.
 ghost use Rattle.std.specs.Prelude.{◌≡◌, IfOk};
-ghost use Rattle.ck_syntax.specs.Trees as plain;
+ghost use Rattle.ck_grammar.specs.Trees as plain;
 ghost use Rattle.ck_syntax.specs.ExpressionViews.{expr_tree, specifier_trees, declarator_tree, declarator_before, dim_before, dim_trees, parameters_tree, parameter_before, parameter_trees};
 
 use crate::expressions::Expr;

@@ -1,6 +1,6 @@
 //! Expressions: the types, and a builder for each production.
 ghost use Rattle.std.specs.Prelude.{◌≡◌, IfOk};
-ghost use Rattle.ck_syntax.specs.Trees as plain;
+ghost use Rattle.ck_grammar.specs.Trees as plain;
 ghost use Rattle.ck_syntax.specs.FirstTokens.{IsFirst};
 ghost use Rattle.ck_syntax.specs.ExpressionViews.{expr_tree, operand_before, operand_trees, suffix_before, suffix_trees, specifier_trees, declarator_tree};
 
@@ -28,12 +28,12 @@ pub enum Expr<A: Allocator> {
         closing: Token,
     },
     /// A primary expression and its suffixes.
-    Suffixed {
+    Postfix {
         primary: Box<Expr<A>, A>,
         suffixes: Vec<Suffix<A>, A>,
     },
     /// A prefix operator or `sizeof`, and an operand.
-    Prefixed {
+    Unary {
         operator: Token,
         operand: Box<Expr<A>, A>,
     },
@@ -59,7 +59,7 @@ pub enum Expr<A: Allocator> {
         operands: Vec<Operand<A>, A>,
     },
     /// test `?` expression `:` expression
-    Choice {
+    Conditional {
         test: Box<Expr<A>, A>,
         question: Token,
         then: Box<Expr<A>, A>,
@@ -67,7 +67,7 @@ pub enum Expr<A: Allocator> {
         otherwise: Box<Expr<A>, A>,
     },
     /// Left side, assignment operator, right side.
-    Assigned {
+    Assignment {
         target: Box<Expr<A>, A>,
         operator: Token,
         value: Box<Expr<A>, A>,
@@ -105,12 +105,12 @@ pub enum Suffix<A: Allocator> {
         closing: Token,
     },
     /// `.` or `->`, and a member's name.
-    Access {
+    MemberAccess {
         operator: Token,
         member: Token,
     },
     /// `++` or `--`
-    Step(Token),
+    PostIncrement(Token),
 }
 
 // By hand, since a derived drop is written out in every function that lets a tree go.
@@ -129,11 +129,11 @@ impl<A: Allocator> Drop for Expr<A> {
                 inner: _inner,
                 closing: _closing,
             } => {}
-            Expr::Suffixed {
+            Expr::Postfix {
                 primary: _primary,
                 suffixes: _suffixes,
             } => {}
-            Expr::Prefixed {
+            Expr::Unary {
                 operator: _operator,
                 operand: _operand,
             } => {}
@@ -155,14 +155,14 @@ impl<A: Allocator> Drop for Expr<A> {
                 first: _first,
                 operands: _operands,
             } => {}
-            Expr::Choice {
+            Expr::Conditional {
                 test: _test,
                 question: _question,
                 then: _then,
                 colon: _colon,
                 otherwise: _otherwise,
             } => {}
-            Expr::Assigned {
+            Expr::Assignment {
                 target: _target,
                 operator: _operator,
                 value: _value,
@@ -205,12 +205,12 @@ impl<A: Allocator> Expr<A> {
             Expr::Strings { first, .. } => *first,
             Expr::Paren { opening, .. } => *opening,
             Expr::Cast { opening, .. } => *opening,
-            Expr::Prefixed { operator, .. } => *operator,
+            Expr::Unary { operator, .. } => *operator,
             Expr::SizeofType { keyword, .. } => *keyword,
-            Expr::Suffixed { primary, .. } => primary.first_token(),
+            Expr::Postfix { primary, .. } => primary.first_token(),
             Expr::Chain { first, .. } => first.first_token(),
-            Expr::Choice { test, .. } => test.first_token(),
-            Expr::Assigned { target, .. } => target.first_token(),
+            Expr::Conditional { test, .. } => test.first_token(),
+            Expr::Assignment { target, .. } => target.first_token(),
         }
     }
 }
@@ -240,18 +240,18 @@ impl<A: Allocator + Copy> Expr<A> {
         suffixes: Vec<Suffix<A>, A>,
     ) -> Result<Expr<A>, OutOfMemory>
         ensures { IfOk result (λ tree. expr_tree tree
-            ≡ plain.Suffixed (expr_tree primary) (suffix_trees suffixes.items)) }
+            ≡ plain.Postfix (expr_tree primary) (suffix_trees suffixes.items)) }
     {
         let primary = Box::new(alloc, primary)?;
-        Ok(Expr::Suffixed { primary, suffixes })
+        Ok(Expr::Postfix { primary, suffixes })
     }
 
     /// A prefix operator or `sizeof`, and an operand.
     pub fn prefixed(alloc: A, operator: Token, operand: Expr<A>) -> Result<Expr<A>, OutOfMemory>
-        ensures { IfOk result (λ tree. expr_tree tree ≡ plain.Prefixed operator (expr_tree operand)) }
+        ensures { IfOk result (λ tree. expr_tree tree ≡ plain.Unary operator (expr_tree operand)) }
     {
         let operand = Box::new(alloc, operand)?;
-        Ok(Expr::Prefixed { operator, operand })
+        Ok(Expr::Unary { operator, operand })
     }
 
     /// `sizeof` `(` type name `)`
@@ -322,13 +322,13 @@ impl<A: Allocator + Copy> Expr<A> {
         colon: Token,
         otherwise: Expr<A>,
     ) -> Result<Expr<A>, OutOfMemory>
-        ensures { IfOk result (λ tree. expr_tree tree ≡ plain.Choice (expr_tree test) question
+        ensures { IfOk result (λ tree. expr_tree tree ≡ plain.Conditional (expr_tree test) question
             (expr_tree then) colon (expr_tree otherwise)) }
     {
         let test = Box::new(alloc, test)?;
         let then = Box::new(alloc, then)?;
         let otherwise = Box::new(alloc, otherwise)?;
-        Ok(Expr::Choice {
+        Ok(Expr::Conditional {
             test,
             question,
             then,
@@ -345,11 +345,11 @@ impl<A: Allocator + Copy> Expr<A> {
         value: Expr<A>,
     ) -> Result<Expr<A>, OutOfMemory>
         ensures { IfOk result (λ tree. expr_tree tree
-            ≡ plain.Assigned (expr_tree target) operator (expr_tree value)) }
+            ≡ plain.Assignment (expr_tree target) operator (expr_tree value)) }
     {
         let target = Box::new(alloc, target)?;
         let value = Box::new(alloc, value)?;
-        Ok(Expr::Assigned {
+        Ok(Expr::Assignment {
             target,
             operator,
             value,
@@ -405,15 +405,15 @@ impl<A: Allocator> Suffix<A> {
 
     /// `.` or `->`, and a member's name.
     pub fn access(operator: Token, member: Token) -> Suffix<A>
-        ensures { suffix_before result ≡ plain.Access operator member }
+        ensures { suffix_before result ≡ plain.MemberAccess operator member }
     {
-        Suffix::Access { operator, member }
+        Suffix::MemberAccess { operator, member }
     }
 
     /// `++` or `--`
     pub fn step(operator: Token) -> Suffix<A>
-        ensures { suffix_before result ≡ plain.Step operator }
+        ensures { suffix_before result ≡ plain.PostIncrement operator }
     {
-        Suffix::Step(operator)
+        Suffix::PostIncrement(operator)
     }
 }

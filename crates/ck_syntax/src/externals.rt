@@ -1,6 +1,6 @@
 //! External declarations and files: the types, and a builder for each production.
 ghost use Rattle.std.specs.Prelude.{◌≡◌, map};
-ghost use Rattle.ck_syntax.specs.Statements as plain;
+ghost use Rattle.ck_grammar.specs.Statements as plain;
 ghost use Rattle.ck_syntax.specs.ExpressionViews.{declarator_tree, specifier_trees};
 ghost use Rattle.ck_syntax.specs.DeclarationViews.{declaration_tree};
 ghost use Rattle.ck_syntax.specs.StatementViews.{item_trees, external_tree, unit_trees};
@@ -8,7 +8,7 @@ ghost use Rattle.ck_syntax.specs.StatementViews.{item_trees, external_tree, unit
 use crate::declarations::Decl;
 use crate::declarators::Declarator;
 use crate::specifiers::Specifier;
-use crate::statements::Item;
+use crate::statements::BlockItem;
 use ck_base::Token;
 use std::alloc::Allocator;
 
@@ -16,13 +16,13 @@ use std::alloc::Allocator;
 #[derive(Drop)]
 pub enum External<A: Allocator> {
     /// A declaration.
-    Outside(Decl<A>),
+    FileDeclaration(Decl<A>),
     /// Specifiers, a declarator and the items of the body: a function's definition (6.9.1).
-    Defines {
+    FunctionDefinition {
         specifiers: Vec<Specifier<A>, A>,
         declarator: Declarator<A>,
         opening: Token,
-        items: Vec<Item<A>, A>,
+        items: Vec<BlockItem<A>, A>,
         closing: Token,
     },
 }
@@ -36,9 +36,9 @@ pub struct Unit<A: Allocator> {
 impl<A: Allocator> External<A> {
     /// A declaration.
     pub fn outside(declaration: Decl<A>) -> External<A>
-        ensures { external_tree result ≡ plain.Outside (declaration_tree declaration) }
+        ensures { external_tree result ≡ plain.FileDeclaration (declaration_tree declaration) }
     {
-        External::Outside(declaration)
+        External::FileDeclaration(declaration)
     }
 
     /// A function's definition.
@@ -46,13 +46,13 @@ impl<A: Allocator> External<A> {
         specifiers: Vec<Specifier<A>, A>,
         declarator: Declarator<A>,
         opening: Token,
-        items: Vec<Item<A>, A>,
+        items: Vec<BlockItem<A>, A>,
         closing: Token,
     ) -> External<A>
-        ensures { external_tree result ≡ plain.Defines (specifier_trees specifiers.items)
+        ensures { external_tree result ≡ plain.FunctionDefinition (specifier_trees specifiers.items)
             (declarator_tree declarator) opening (item_trees items.items) closing }
     {
-        External::Defines {
+        External::FunctionDefinition {
             specifiers,
             declarator,
             opening,

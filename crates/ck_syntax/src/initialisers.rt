@@ -1,6 +1,6 @@
 //! Initialisers and designators: the types, and a builder for each production.
 ghost use Rattle.std.specs.Prelude.{◌≡◌, IfOk};
-ghost use Rattle.ck_syntax.specs.Statements as plain;
+ghost use Rattle.ck_grammar.specs.Statements as plain;
 ghost use Rattle.ck_syntax.specs.ExpressionViews.{expr_tree};
 ghost use Rattle.ck_syntax.specs.Rows.{in_front};
 ghost use Rattle.ck_syntax.specs.InitialiserViews.{designator_before, designation_tree, designation_option, init_tree, init_before, init_trees};

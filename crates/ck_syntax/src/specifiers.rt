@@ -1,6 +1,6 @@
 //! Declaration specifiers, the members of a struct and enumerators: the types, and a builder for each production.
 ghost use Rattle.std.specs.Prelude.{◌≡◌};
-ghost use Rattle.ck_syntax.specs.Trees as plain;
+ghost use Rattle.ck_grammar.specs.Trees as plain;
 ghost use Rattle.ck_syntax.specs.ExpressionViews.{expr_tree, specifier_before, specifier_trees, member_before, member_trees, declarator_tree, declarator_trees, last_enumerator, enumerator_before, front_enumerator_before, enumerator_trees};
 
 use crate::declarators::{Declarator, NextDeclarator};

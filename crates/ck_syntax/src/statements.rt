@@ -1,6 +1,6 @@
 //! Statements and the items of blocks: the types, and a builder for each production.
 ghost use Rattle.std.specs.Prelude.{◌≡◌, IfOk};
-ghost use Rattle.ck_syntax.specs.Statements as plain;
+ghost use Rattle.ck_grammar.specs.Statements as plain;
 ghost use Rattle.ck_syntax.specs.ExpressionViews.{expr_tree};
 ghost use Rattle.ck_syntax.specs.DeclarationViews.{declaration_tree, for_start_tree};
 ghost use Rattle.ck_syntax.specs.StatementViews.{statement_tree, item_before, item_trees, expr_option};
@@ -16,13 +16,13 @@ pub enum Stmt<A: Allocator> {
     /// `{` items `}`
     Block {
         opening: Token,
-        items: Vec<Item<A>, A>,
+        items: Vec<BlockItem<A>, A>,
         closing: Token,
     },
     /// `;`
     Empty(Token),
     /// expression `;`
-    Evaluates {
+    ExpressionStatement {
         expr: Expr<A>,
         semicolon: Token,
     },
@@ -107,7 +107,7 @@ pub enum Stmt<A: Allocator> {
         semicolon: Token,
     },
     /// `break` `;` or `continue` `;`
-    Leave {
+    Jump {
         keyword: Token,
         semicolon: Token,
     },
@@ -127,11 +127,11 @@ pub enum Stmt<A: Allocator> {
 /// What stands in a block (6.8.2).
 #[cycle(statements)]
 #[derive(Drop)]
-pub enum Item<A: Allocator> {
+pub enum BlockItem<A: Allocator> {
     /// A declaration.
-    Declaring(Decl<A>),
+    DeclarationItem(Decl<A>),
     /// A statement.
-    Doing(Stmt<A>),
+    StatementItem(Stmt<A>),
 }
 
 // By hand, since a derived drop is written out in every function that lets a tree go.
@@ -145,7 +145,7 @@ impl<A: Allocator> Drop for Stmt<A> {
                 closing: _closing,
             } => {}
             Stmt::Empty(_semicolon) => {}
-            Stmt::Evaluates {
+            Stmt::ExpressionStatement {
                 expr: _expr,
                 semicolon: _semicolon,
             } => {}
@@ -219,7 +219,7 @@ impl<A: Allocator> Drop for Stmt<A> {
                 name: _name,
                 semicolon: _semicolon,
             } => {}
-            Stmt::Leave {
+            Stmt::Jump {
                 keyword: _keyword,
                 semicolon: _semicolon,
             } => {}
@@ -238,7 +238,7 @@ impl<A: Allocator> Drop for Stmt<A> {
 
 impl<A: Allocator> Stmt<A> {
     /// `{` items `}`
-    pub fn block(opening: Token, items: Vec<Item<A>, A>, closing: Token) -> Stmt<A>
+    pub fn block(opening: Token, items: Vec<BlockItem<A>, A>, closing: Token) -> Stmt<A>
         ensures { statement_tree result ≡ plain.Block opening (item_trees items.items) closing }
     {
         Stmt::Block {
@@ -257,9 +257,9 @@ impl<A: Allocator> Stmt<A> {
 
     /// expression `;`
     pub fn evaluates(expr: Expr<A>, semicolon: Token) -> Stmt<A>
-        ensures { statement_tree result ≡ plain.Evaluates (expr_tree expr) semicolon }
+        ensures { statement_tree result ≡ plain.ExpressionStatement (expr_tree expr) semicolon }
     {
-        Stmt::Evaluates { expr, semicolon }
+        Stmt::ExpressionStatement { expr, semicolon }
     }
 
     /// `goto` name `;`
@@ -275,9 +275,9 @@ impl<A: Allocator> Stmt<A> {
 
     /// `break` `;` or `continue` `;`
     pub fn leave(keyword: Token, semicolon: Token) -> Stmt<A>
-        ensures { statement_tree result ≡ plain.Leave keyword semicolon }
+        ensures { statement_tree result ≡ plain.Jump keyword semicolon }
     {
-        Stmt::Leave { keyword, semicolon }
+        Stmt::Jump { keyword, semicolon }
     }
 
     /// `return` `;`
@@ -496,18 +496,18 @@ impl<A: Allocator + Copy> Stmt<A> {
     }
 }
 
-impl<A: Allocator> Item<A> {
+impl<A: Allocator> BlockItem<A> {
     /// A declaration.
-    pub fn declaring(declaration: Decl<A>) -> Item<A>
-        ensures { item_before result ≡ plain.Declaring (declaration_tree declaration) }
+    pub fn declaring(declaration: Decl<A>) -> BlockItem<A>
+        ensures { item_before result ≡ plain.DeclarationItem (declaration_tree declaration) }
     {
-        Item::Declaring(declaration)
+        BlockItem::DeclarationItem(declaration)
     }
 
     /// A statement.
-    pub fn doing(statement: Stmt<A>) -> Item<A>
-        ensures { item_before result ≡ plain.Doing (statement_tree statement) }
+    pub fn doing(statement: Stmt<A>) -> BlockItem<A>
+        ensures { item_before result ≡ plain.StatementItem (statement_tree statement) }
     {
-        Item::Doing(statement)
+        BlockItem::StatementItem(statement)
     }
 }

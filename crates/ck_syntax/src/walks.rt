@@ -1,6 +1,6 @@
 //! Walks over expressions: the expressions right inside one, and all that are inside it.
 ghost use Rattle.std.specs.Prelude.{◌≡◌, [], ◌∷◌, ◌++◌, IfOk};
-ghost use Rattle.ck_syntax.specs.Trees as plain;
+ghost use Rattle.ck_grammar.specs.Trees as plain;
 ghost use Rattle.ck_syntax.specs.Parts as parts;
 ghost use Rattle.ck_syntax.specs.ExpressionViews.{expr_tree, operand_trees, suffix_before, suffix_trees};
 ghost use Rattle.ck_syntax.specs.Walks.{trees_of, Grew, in_parts};
@@ -43,9 +43,9 @@ fn push_children<'a, A: Allocator>(
         Expr::Strings { .. } => Ok(()),
         Expr::SizeofType { .. } => Ok(()),
         Expr::Paren { inner, .. } => push(list, inner),
-        Expr::Prefixed { operand, .. } => push(list, operand),
+        Expr::Unary { operand, .. } => push(list, operand),
         Expr::Cast { operand, .. } => push(list, operand),
-        Expr::Suffixed { primary, suffixes } => {
+        Expr::Postfix { primary, suffixes } => {
             push(list, primary)?;
             push_suffixes(list, suffixes)
         }
@@ -53,7 +53,7 @@ fn push_children<'a, A: Allocator>(
             push(list, first)?;
             push_operands(list, operands)
         }
-        Expr::Choice {
+        Expr::Conditional {
             test,
             then,
             otherwise,
@@ -63,7 +63,7 @@ fn push_children<'a, A: Allocator>(
             push(list, then)?;
             push(list, otherwise)
         }
-        Expr::Assigned { target, value, .. } => {
+        Expr::Assignment { target, value, .. } => {
             push(list, target)?;
             push(list, value)
         }
@@ -118,8 +118,8 @@ fn push_suffix<'a, A: Allocator>(
             push(list, first)?;
             push_operands(list, others)
         }
-        Suffix::Access { .. } => Ok(()),
-        Suffix::Step(_operator) => Ok(()),
+        Suffix::MemberAccess { .. } => Ok(()),
+        Suffix::PostIncrement(_operator) => Ok(()),
     }
 }
 
@@ -149,9 +149,9 @@ fn push_inner<'a, A: Allocator>(
         Expr::Strings { .. } => Ok(()),
         Expr::SizeofType { .. } => Ok(()),
         Expr::Paren { inner, .. } => push_within(inner, list),
-        Expr::Prefixed { operand, .. } => push_within(operand, list),
+        Expr::Unary { operand, .. } => push_within(operand, list),
         Expr::Cast { operand, .. } => push_within(operand, list),
-        Expr::Suffixed { primary, suffixes } => {
+        Expr::Postfix { primary, suffixes } => {
             push_within(primary, list)?;
             within_suffixes(suffixes, list)
         }
@@ -159,7 +159,7 @@ fn push_inner<'a, A: Allocator>(
             push_within(first, list)?;
             within_operands(operands, list)
         }
-        Expr::Choice {
+        Expr::Conditional {
             test,
             then,
             otherwise,
@@ -169,7 +169,7 @@ fn push_inner<'a, A: Allocator>(
             push_within(then, list)?;
             push_within(otherwise, list)
         }
-        Expr::Assigned { target, value, .. } => {
+        Expr::Assignment { target, value, .. } => {
             push_within(target, list)?;
             push_within(value, list)
         }
@@ -219,7 +219,7 @@ fn within_suffix<'a, A: Allocator>(
             push_within(first, list)?;
             within_operands(others, list)
         }
-        Suffix::Access { .. } => Ok(()),
-        Suffix::Step(_operator) => Ok(()),
+        Suffix::MemberAccess { .. } => Ok(()),
+        Suffix::PostIncrement(_operator) => Ok(()),
     }
 }

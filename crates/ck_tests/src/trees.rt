@@ -1,6 +1,6 @@
 //! Trees that are long, and trees as deep as the language allows: they are built and let go on a small stack.
 use ck_base::{OutOfMemory, Span, Token, TokenKind};
-use ck_syntax::{Declarator, Dim, Expr, Item, Operand, Parameters, Specifier, Stmt, Suffix};
+use ck_syntax::{BlockItem, Declarator, Dim, Expr, Operand, Parameters, Specifier, Stmt, Suffix};
 use std::alloc::Global;
 use std::test::Fail;
 
@@ -54,7 +54,7 @@ fn wide_declarator(alloc: Global, count: u32) -> Result<Declarator<Global>, OutO
 fn long_block(alloc: Global, count: u32) -> Result<Stmt<Global>, OutOfMemory> {
     let mut items = Vec::new(alloc);
     for i in 0..count {
-        items.push(Item::doing(Stmt::empty(token_at(i))))?;
+        items.push(BlockItem::doing(Stmt::empty(token_at(i))))?;
     }
     Ok(Stmt::block(token_at(0), items, token_at(0)))
 }
@@ -73,7 +73,7 @@ fn deep_block(alloc: Global, inner: Stmt<Global>, count: u32) -> Result<Stmt<Glo
     let mut tree = inner;
     for i in 0..count {
         let mut items = Vec::new(alloc);
-        items.push(Item::doing(tree))?;
+        items.push(BlockItem::doing(tree))?;
         tree = Stmt::block(token_at(i), items, token_at(i));
     }
     Ok(tree)

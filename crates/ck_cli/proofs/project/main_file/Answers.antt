@@ -1,5 +1,5 @@
 use Rattle.std.proofs.Common.{◌≡◌, Err, map, string_bytes, sym, ap, subst, arith, true, false}
-use Rattle.ck_io.specs.Outside.{HasName, HasBytes, IsTooLong}
+use Rattle.ck_io.specs.Environment.{HasName, HasBytes, IsTooLong}
 use Rattle.ck_cli.specs.Door.{HasJustMain, main_name, most_bytes}
 use Rattle.ck_cli.proofs.ProjectLemmas.{missing, has_main, read_as, too_large_as}
 use Rattle.ck_cli.proofs.project.main_file.Goals as goal

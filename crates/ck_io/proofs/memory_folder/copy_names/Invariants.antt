@@ -1,5 +1,5 @@
 use Rattle.std.proofs.Common.{◌≡◌, map, take, string_bytes}
-use Rattle.ck_io.specs.Outside.{names_of}
+use Rattle.ck_io.specs.Environment.{names_of}
 use Rattle.ck_io.specs.MemoryFiles.{files_of}
 use Rattle.ck_io.proofs.memory_folder.copy_names.Given as goal
 

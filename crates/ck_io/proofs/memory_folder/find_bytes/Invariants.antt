@@ -1,5 +1,5 @@
 use Rattle.std.proofs.Common.{◌≡◌, drop}
-use Rattle.ck_io.specs.Outside.{bytes_of}
+use Rattle.ck_io.specs.Environment.{bytes_of}
 use Rattle.ck_io.specs.MemoryFiles.{files_of}
 use Rattle.ck_io.proofs.memory_folder.find_bytes.Given as goal
 

@@ -1,15 +1,16 @@
-use Rattle.std.proofs.Common.{arith}
-use Rattle.ck_rows.proofs.SinglePairs.{pair-there, pair-kept, pair-only, pair-pairs}
+use Rattle.std.proofs.Common.{refl, inl, inr, arith}
+use Rattle.ck_rows.proofs.SinglePairs.{added, added-pairs}
 use Rattle.ck_rows.proofs.pairs.add_pair.Goals as goal
 
-pub returns-clause-there : goal.returns-clause-there
-returns-clause-there c = pair-there c.args.rows.now c.args.from c.args.to (omega arith) c.requires.from c.requires.to
-
-pub returns-clause-kept : goal.returns-clause-kept
-returns-clause-kept c = pair-kept c.args.rows.now c.args.from c.args.to (omega arith) c.requires.from c.requires.to
-
-pub returns-clause-only : goal.returns-clause-only
-returns-clause-only c = pair-only c.args.rows.now c.args.from c.args.to (omega arith) c.requires.from c.requires.to
-
-pub returns-clause-pairs : goal.returns-clause-pairs
-returns-clause-pairs c = pair-pairs c.args.rows.now c.args.from c.args.to (omega arith) c.requires.from c.requires.to
+pub returns : goal.returns
+returns c =
+    let rows = c.args.rows.now in
+    let i = c.args.from in
+    let t = c.args.to in
+    let both = added rows i t (omega arith) c.requires.from c.requires.to in
+    record {
+      pairs = added-pairs rows i t (omega arith) c.requires.from c.requires.to;
+      there = (both i t).1 (inr (refl, refl));
+      kept = λ a b h. (both a b).1 (inl h);
+      only = λ a b. (both a b).0;
+    }

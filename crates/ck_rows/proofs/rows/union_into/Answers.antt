@@ -1,47 +1,34 @@
-use Rattle.std.proofs.Common.{◌+◌, bit_or, get_or, set, sym, subst, arith}
-use Rattle.std.proofs.lemmas.Nat.{or_of_16}
+use Rattle.std.proofs.Common.{◌≡◌, ℕ, ◌<◌, ◌^◌, ◌⊎◌, get_or, sym, subst, inl, inr, arith}
+use Rattle.ck_rows.specs.Relation.{rows_of, Relates}
 use Rattle.ck_rows.specs.Room.{room}
-use Rattle.ck_rows.proofs.MaskLemmas.{UnionSoFar, UnionSoFar-same, UnionSoFar-grown}
-use Rattle.ck_rows.proofs.UnionLemmas.{union-pairs, union-grew, union-kept, union-added, union-only}
+use Rattle.ck_rows.proofs.PairLists.{HaveSamePairs-union}
+use Rattle.ck_rows.proofs.Unions.{HasGrown, Relates-union, same-or-grown, new-pair, grown-room, is-answer, true-from_new_pair}
 use Rattle.ck_rows.proofs.rows.union_into.Goals as goal
-use Rattle.ck_rows.proofs.rows.union_into.Goals.{then-has-had, else-has-had}
 
-pub masks-preserved : goal.masks-preserved
-masks-preserved c =
-    let old = c.args.into.now.mask in
-    let from = c.args.from.now.mask in
-    let now = c.masks.into.mask in
-    let i = c.masks.i in
-    elim c.if-has-had.branch [
-      | then-has-had w ↦
-          subst (λ rows. UnionSoFar old from rows.mask c.if-has-had.grew (i + 1)) (sym w.into-is)
-          (subst (λ grew. UnionSoFar old from (set now i (bit_or (get_or now i 0) (get_or from i 0))) grew (i + 1)) (sym w.grew-is)
-          (UnionSoFar-grown old from now c.masks.grew i (omega arith) (omega arith) c.masks.invariant w.if-has-had.true (or_of_16 (get_or now i 0) (get_or from i 0) (omega arith) (omega arith))))
-      | else-has-had w ↦
-          subst (λ rows. UnionSoFar old from rows.mask c.if-has-had.grew (i + 1)) (sym w.into-is)
-          (subst (λ grew. UnionSoFar old from now grew (i + 1)) (sym w.grew-is)
-          (UnionSoFar-same old from now c.masks.grew i c.masks.invariant w.if-has-had.false))
-    ]
-
-pub returns-clause-pairs : goal.returns-clause-pairs
-returns-clause-pairs c = union-pairs c.args.into.now c.args.from.now c.masks.into c.masks.grew (omega arith) c.masks.invariant
-
-pub returns-clause-grew : goal.returns-clause-grew
-returns-clause-grew c = union-grew c.args.into.now c.args.from.now c.masks.into c.masks.grew (omega arith) c.masks.invariant
-
-pub returns-clause-kept : goal.returns-clause-kept
-returns-clause-kept c = union-kept c.args.into.now c.args.from.now c.masks.into c.masks.grew (omega arith) c.masks.invariant
-
-pub returns-clause-added : goal.returns-clause-added
-returns-clause-added c = union-added c.args.into.now c.args.from.now c.masks.into c.masks.grew (omega arith) c.masks.invariant
-
-pub returns-clause-only : goal.returns-clause-only
-returns-clause-only c = union-only c.args.into.now c.args.from.now c.masks.into c.masks.grew (omega arith) c.masks.invariant
-
-pub returns-clause-room : goal.returns-clause-room
+pub returns : goal.returns
 unfolding room
-returns-clause-room c = c.masks.invariant.room
-
-pub returns-clause-less_room : goal.returns-clause-less_room
-unfolding room
-returns-clause-less_room c = c.masks.invariant.less_room
+returns c =
+    let old = c.args.into.now in
+    let from = c.args.from.now in
+    let now = rows_of c.joined.result in
+    let lanes = c.joined.ensures.lanes in
+    let fits = c.joined.ensures.fits in
+    let union = Relates-union old.mask from.mask now.mask (omega arith) (omega arith) lanes in
+    let kept : (i j : ℕ) → Relates old i j → Relates now i j = λ i j h. (union i j).1 (inl h) in
+    let grown : (now.mask ≡ old.mask) ⊎ HasGrown old.mask now.mask =
+    subst (λ masks. (masks ≡ old.mask) ⊎ HasGrown old.mask masks) (sym lanes)
+    (same-or-grown old.mask from.mask (omega arith) (λ k. subst (λ masks. get_or masks k 0 < 2 ^ 16) lanes (fits k))) in
+    let answer = is-answer old now c.ne.result grown c.ne.ensures in
+    record {
+      pairs = HaveSamePairs-union now old from union;
+      grew = (
+        λ t. new-pair old now (omega arith) fits kept (answer.grown t),
+        true-from_new_pair old now c.ne.result answer,
+      );
+      kept = kept;
+      added = λ i j h. (union i j).1 (inr h);
+      only = λ i j. (union i j).0;
+      unchanged = answer.same;
+      room = grown-room old.mask now.mask grown;
+      less_room = λ t. (answer.grown t).room;
+    }

@@ -1,9 +1,9 @@
 use Rattle.std.proofs.Common.{refl, ◌++◌, ap, sym, ◌∙◌}
 use Rattle.ck_syntax.specs.ExpressionViews.{expr_tree, operand_trees, suffix_before, suffix_trees}
 use Rattle.ck_syntax.specs.Parts.{subexpressions, in_operands, in_suffixes}
-use Rattle.ck_syntax.specs.Trees as plain
+use Rattle.ck_grammar.specs.Trees as plain
 use Rattle.ck_syntax.specs.Walks.{trees_of, in_parts}
-use Rattle.ck_syntax.proofs.Equations.{expr_tree-Name, expr_tree-Constant, expr_tree-Strings, expr_tree-Paren, expr_tree-Cast, expr_tree-Prefixed, expr_tree-SizeofType, expr_tree-Suffixed, expr_tree-Chain, expr_tree-Choice, expr_tree-Assigned, suffix_before-Index, suffix_before-CallEmpty, suffix_before-Call, suffix_before-Access, suffix_before-Step}
+use Rattle.ck_syntax.proofs.Equations.{expr_tree-Name, expr_tree-Constant, expr_tree-Strings, expr_tree-Paren, expr_tree-Cast, expr_tree-Unary, expr_tree-SizeofType, expr_tree-Postfix, expr_tree-Chain, expr_tree-Conditional, expr_tree-Assignment, suffix_before-Index, suffix_before-CallEmpty, suffix_before-Call, suffix_before-MemberAccess, suffix_before-PostIncrement}
 use Rattle.ck_syntax.proofs.WalksGrown.{growing_step, growing_done, grew_last, grew_once, grew_twice, operands_within, operand_within, suffixes_within, suffix_within, in_suffixes-before}
 use Rattle.ck_syntax.proofs.walks.+within.Goals as goal
 
@@ -23,19 +23,19 @@ pub push_inner-returns-in-Paren : goal.push_inner-returns-in-Paren
 push_inner-returns-in-Paren g t c = grew_once c.push_within.result c.args.list.now.items c.push_within.new.list.items (subexpressions (expr_tree c.deref.result.now)) (in_parts (expr_tree c.args.tree.now))
     (λ more. ap (λ t. in_parts t more) (ap expr_tree c.in-Paren.is ∙ expr_tree-Paren _ _ _) ∙ ap (λ e. subexpressions (expr_tree e) more) (sym c.deref.ensures)) c.push_within.ensures
 
-pub push_inner-returns-in-Prefixed : goal.push_inner-returns-in-Prefixed
-push_inner-returns-in-Prefixed g t c = grew_once c.push_within-in-Prefixed.result c.args.list.now.items c.push_within-in-Prefixed.new.list.items (subexpressions (expr_tree c.deref-in-Prefixed.result.now)) (in_parts (expr_tree c.args.tree.now))
-    (λ more. ap (λ t. in_parts t more) (ap expr_tree c.in-Prefixed.is ∙ expr_tree-Prefixed _ _) ∙ ap (λ e. subexpressions (expr_tree e) more) (sym c.deref-in-Prefixed.ensures)) c.push_within-in-Prefixed.ensures
+pub push_inner-returns-in-Unary : goal.push_inner-returns-in-Unary
+push_inner-returns-in-Unary g t c = grew_once c.push_within-in-Unary.result c.args.list.now.items c.push_within-in-Unary.new.list.items (subexpressions (expr_tree c.deref-in-Unary.result.now)) (in_parts (expr_tree c.args.tree.now))
+    (λ more. ap (λ t. in_parts t more) (ap expr_tree c.in-Unary.is ∙ expr_tree-Unary _ _) ∙ ap (λ e. subexpressions (expr_tree e) more) (sym c.deref-in-Unary.ensures)) c.push_within-in-Unary.ensures
 
 pub push_inner-returns-in-Cast : goal.push_inner-returns-in-Cast
 push_inner-returns-in-Cast g t c = grew_once c.push_within-in-Cast.result c.args.list.now.items c.push_within-in-Cast.new.list.items (subexpressions (expr_tree c.deref-in-Cast.result.now)) (in_parts (expr_tree c.args.tree.now))
     (λ more. ap (λ t. in_parts t more) (ap expr_tree c.in-Cast.is ∙ expr_tree-Cast _ _ _ _ _) ∙ ap (λ e. subexpressions (expr_tree e) more) (sym c.deref-in-Cast.ensures)) c.push_within-in-Cast.ensures
 
-pub push_inner-returns-in_ok-push_within-in-Suffixed : goal.push_inner-returns-in_ok-push_within-in-Suffixed
-push_inner-returns-in_ok-push_within-in-Suffixed g t c = grew_last c.within_suffixes.result c.args.list.now.items c.push_within-in-Suffixed.new.list.items c.within_suffixes.new.list.items
-    (subexpressions (expr_tree c.deref-in-Suffixed.result.now)) (in_suffixes (suffix_trees c.in-Suffixed.suffixes.items)) (in_parts (expr_tree c.args.tree.now))
-    c.in_ok-push_within-in-Suffixed.ensures
-    (λ more. ap (λ t. in_parts t more) (ap expr_tree c.in-Suffixed.is ∙ expr_tree-Suffixed _ _) ∙ ap (λ e. subexpressions (expr_tree e) (in_suffixes (suffix_trees c.in-Suffixed.suffixes.items) more)) (sym c.deref-in-Suffixed.ensures)) c.within_suffixes.ensures
+pub push_inner-returns-in_ok-push_within-in-Postfix : goal.push_inner-returns-in_ok-push_within-in-Postfix
+push_inner-returns-in_ok-push_within-in-Postfix g t c = grew_last c.within_suffixes.result c.args.list.now.items c.push_within-in-Postfix.new.list.items c.within_suffixes.new.list.items
+    (subexpressions (expr_tree c.deref-in-Postfix.result.now)) (in_suffixes (suffix_trees c.in-Postfix.suffixes.items)) (in_parts (expr_tree c.args.tree.now))
+    c.in_ok-push_within-in-Postfix.ensures
+    (λ more. ap (λ t. in_parts t more) (ap expr_tree c.in-Postfix.is ∙ expr_tree-Postfix _ _) ∙ ap (λ e. subexpressions (expr_tree e) (in_suffixes (suffix_trees c.in-Postfix.suffixes.items) more)) (sym c.deref-in-Postfix.ensures)) c.within_suffixes.ensures
 
 pub push_inner-returns-in_ok-push_within-in-Chain : goal.push_inner-returns-in_ok-push_within-in-Chain
 push_inner-returns-in_ok-push_within-in-Chain g t c = grew_last c.within_operands.result c.args.list.now.items c.push_within-in-Chain.new.list.items c.within_operands.new.list.items
@@ -43,20 +43,20 @@ push_inner-returns-in_ok-push_within-in-Chain g t c = grew_last c.within_operand
     c.in_ok-push_within-in-Chain.ensures
     (λ more. ap (λ t. in_parts t more) (ap expr_tree c.in-Chain.is ∙ expr_tree-Chain _ _) ∙ ap (λ e. subexpressions (expr_tree e) (in_operands (operand_trees c.in-Chain.operands.items) more)) (sym c.deref-in-Chain.ensures)) c.within_operands.ensures
 
-pub push_inner-returns-in_ok-push_within-in-Assigned : goal.push_inner-returns-in_ok-push_within-in-Assigned
-push_inner-returns-in_ok-push_within-in-Assigned g t c = grew_last c.push_within-in-Assigned-2.result c.args.list.now.items c.push_within-in-Assigned.new.list.items c.push_within-in-Assigned-2.new.list.items
-    (subexpressions (expr_tree c.deref-in-Assigned.result.now)) (subexpressions (expr_tree c.deref-in-Assigned-2.result.now)) (in_parts (expr_tree c.args.tree.now))
-    c.in_ok-push_within-in-Assigned.ensures
-    (λ more. ap (λ t. in_parts t more) (ap expr_tree c.in-Assigned.is ∙ expr_tree-Assigned _ _ _) ∙ ap (λ e. subexpressions (expr_tree e) (subexpressions (expr_tree c.in-Assigned.value.value) more)) (sym c.deref-in-Assigned.ensures)
-    ∙ ap (λ e. subexpressions (expr_tree c.deref-in-Assigned.result.now) (subexpressions (expr_tree e) more)) (sym c.deref-in-Assigned-2.ensures)) c.push_within-in-Assigned-2.ensures
+pub push_inner-returns-in_ok-push_within-in-Assignment : goal.push_inner-returns-in_ok-push_within-in-Assignment
+push_inner-returns-in_ok-push_within-in-Assignment g t c = grew_last c.push_within-in-Assignment-2.result c.args.list.now.items c.push_within-in-Assignment.new.list.items c.push_within-in-Assignment-2.new.list.items
+    (subexpressions (expr_tree c.deref-in-Assignment.result.now)) (subexpressions (expr_tree c.deref-in-Assignment-2.result.now)) (in_parts (expr_tree c.args.tree.now))
+    c.in_ok-push_within-in-Assignment.ensures
+    (λ more. ap (λ t. in_parts t more) (ap expr_tree c.in-Assignment.is ∙ expr_tree-Assignment _ _ _) ∙ ap (λ e. subexpressions (expr_tree e) (subexpressions (expr_tree c.in-Assignment.value.value) more)) (sym c.deref-in-Assignment.ensures)
+    ∙ ap (λ e. subexpressions (expr_tree c.deref-in-Assignment.result.now) (subexpressions (expr_tree e) more)) (sym c.deref-in-Assignment-2.ensures)) c.push_within-in-Assignment-2.ensures
 
-pub push_inner-returns-in_ok-push_within-in-Choice-2 : goal.push_inner-returns-in_ok-push_within-in-Choice-2
-push_inner-returns-in_ok-push_within-in-Choice-2 g t c = grew_last c.push_within-in-Choice-3.result c.args.list.now.items c.push_within-in-Choice-2.new.list.items c.push_within-in-Choice-3.new.list.items
-    (λ more. subexpressions (expr_tree c.deref-in-Choice.result.now) (subexpressions (expr_tree c.deref-in-Choice-2.result.now) more)) (subexpressions (expr_tree c.deref-in-Choice-3.result.now)) (in_parts (expr_tree c.args.tree.now))
-    (grew_twice c.args.list.now.items c.push_within-in-Choice.new.list.items c.push_within-in-Choice-2.new.list.items (subexpressions (expr_tree c.deref-in-Choice.result.now)) (subexpressions (expr_tree c.deref-in-Choice-2.result.now)) c.in_ok-push_within-in-Choice.ensures c.in_ok-push_within-in-Choice-2.ensures)
-    (λ more. ap (λ t. in_parts t more) (ap expr_tree c.in-Choice.is ∙ expr_tree-Choice _ _ _ _ _) ∙ ap (λ e. subexpressions (expr_tree e) (subexpressions (expr_tree c.in-Choice.then.value) (subexpressions (expr_tree c.in-Choice.otherwise.value) more))) (sym c.deref-in-Choice.ensures)
-    ∙ ap (λ e. subexpressions (expr_tree c.deref-in-Choice.result.now) (subexpressions (expr_tree e) (subexpressions (expr_tree c.in-Choice.otherwise.value) more))) (sym c.deref-in-Choice-2.ensures)
-    ∙ ap (λ e. subexpressions (expr_tree c.deref-in-Choice.result.now) (subexpressions (expr_tree c.deref-in-Choice-2.result.now) (subexpressions (expr_tree e) more))) (sym c.deref-in-Choice-3.ensures)) c.push_within-in-Choice-3.ensures
+pub push_inner-returns-in_ok-push_within-in-Conditional-2 : goal.push_inner-returns-in_ok-push_within-in-Conditional-2
+push_inner-returns-in_ok-push_within-in-Conditional-2 g t c = grew_last c.push_within-in-Conditional-3.result c.args.list.now.items c.push_within-in-Conditional-2.new.list.items c.push_within-in-Conditional-3.new.list.items
+    (λ more. subexpressions (expr_tree c.deref-in-Conditional.result.now) (subexpressions (expr_tree c.deref-in-Conditional-2.result.now) more)) (subexpressions (expr_tree c.deref-in-Conditional-3.result.now)) (in_parts (expr_tree c.args.tree.now))
+    (grew_twice c.args.list.now.items c.push_within-in-Conditional.new.list.items c.push_within-in-Conditional-2.new.list.items (subexpressions (expr_tree c.deref-in-Conditional.result.now)) (subexpressions (expr_tree c.deref-in-Conditional-2.result.now)) c.in_ok-push_within-in-Conditional.ensures c.in_ok-push_within-in-Conditional-2.ensures)
+    (λ more. ap (λ t. in_parts t more) (ap expr_tree c.in-Conditional.is ∙ expr_tree-Conditional _ _ _ _ _) ∙ ap (λ e. subexpressions (expr_tree e) (subexpressions (expr_tree c.in-Conditional.then.value) (subexpressions (expr_tree c.in-Conditional.otherwise.value) more))) (sym c.deref-in-Conditional.ensures)
+    ∙ ap (λ e. subexpressions (expr_tree c.deref-in-Conditional.result.now) (subexpressions (expr_tree e) (subexpressions (expr_tree c.in-Conditional.otherwise.value) more))) (sym c.deref-in-Conditional-2.ensures)
+    ∙ ap (λ e. subexpressions (expr_tree c.deref-in-Conditional.result.now) (subexpressions (expr_tree c.deref-in-Conditional-2.result.now) (subexpressions (expr_tree e) more))) (sym c.deref-in-Conditional-3.ensures)) c.push_within-in-Conditional-3.ensures
 
 pub within_operands-loop-operand-preserved : goal.within_operands-loop-operand-preserved
 within_operands-loop-operand-preserved g t c = growing_step operands_within operand_within (λ x rest more. refl) c.args.list.now.items c.loop-operand.list.items c.push_within.new.list.items
@@ -77,11 +77,11 @@ within_suffixes-returns g t c = growing_done suffixes_within (λ more. refl) c.a
 pub within_suffix-returns-in-CallEmpty : goal.within_suffix-returns-in-CallEmpty
 within_suffix-returns-in-CallEmpty g t c more = ap (λ s. trees_of c.args.list.now.items ++ in_suffixes (s plain.NoSuffixes) more) (sym (ap suffix_before c.in-CallEmpty.is ∙ suffix_before-CallEmpty _ _ _))
 
-pub within_suffix-returns-in-Access : goal.within_suffix-returns-in-Access
-within_suffix-returns-in-Access g t c more = ap (λ s. trees_of c.args.list.now.items ++ in_suffixes (s plain.NoSuffixes) more) (sym (ap suffix_before c.in-Access.is ∙ suffix_before-Access _ _ _))
+pub within_suffix-returns-in-MemberAccess : goal.within_suffix-returns-in-MemberAccess
+within_suffix-returns-in-MemberAccess g t c more = ap (λ s. trees_of c.args.list.now.items ++ in_suffixes (s plain.NoSuffixes) more) (sym (ap suffix_before c.in-MemberAccess.is ∙ suffix_before-MemberAccess _ _ _))
 
-pub within_suffix-returns-in-Step : goal.within_suffix-returns-in-Step
-within_suffix-returns-in-Step g t c more = ap (λ s. trees_of c.args.list.now.items ++ in_suffixes (s plain.NoSuffixes) more) (sym (ap suffix_before c.in-Step.is ∙ suffix_before-Step _ _))
+pub within_suffix-returns-in-PostIncrement : goal.within_suffix-returns-in-PostIncrement
+within_suffix-returns-in-PostIncrement g t c more = ap (λ s. trees_of c.args.list.now.items ++ in_suffixes (s plain.NoSuffixes) more) (sym (ap suffix_before c.in-PostIncrement.is ∙ suffix_before-PostIncrement _ _))
 
 pub within_suffix-returns-in-Index : goal.within_suffix-returns-in-Index
 within_suffix-returns-in-Index g t c = grew_once c.push_within.result c.args.list.now.items c.push_within.new.list.items (subexpressions (expr_tree c.in-Index.index)) (suffix_within c.args.suffix.now)

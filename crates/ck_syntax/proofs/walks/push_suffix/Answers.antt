@@ -1,9 +1,9 @@
 use Rattle.std.proofs.Common.{ap, ◌++◌, ◌∷◌, sym, ◌∙◌}
 use Rattle.ck_syntax.specs.ExpressionViews.{expr_tree, operand_trees, suffix_before}
 use Rattle.ck_syntax.specs.Parts.{of_operands, of_suffixes}
-use Rattle.ck_syntax.specs.Trees as plain
+use Rattle.ck_grammar.specs.Trees as plain
 use Rattle.ck_syntax.specs.Walks.{trees_of}
-use Rattle.ck_syntax.proofs.Equations.{suffix_before-Index, suffix_before-CallEmpty, suffix_before-Call, suffix_before-Access, suffix_before-Step}
+use Rattle.ck_syntax.proofs.Equations.{suffix_before-Index, suffix_before-CallEmpty, suffix_before-Call, suffix_before-MemberAccess, suffix_before-PostIncrement}
 use Rattle.ck_syntax.proofs.WalksGrown.{grew_last, grew_once, suffix_front}
 use Rattle.ck_syntax.proofs.walks.push_suffix.Goals as goal
 
@@ -20,8 +20,8 @@ returns-in_ok-push-in-Call g c = grew_last c.push_operands.result c.args.list.no
     c.in_ok-push-in-Call.ensures
     (λ more. ap (λ s. of_suffixes (s plain.NoSuffixes) more) (ap suffix_before c.in-Call.is ∙ suffix_before-Call _ _ _ _)) c.push_operands.ensures
 
-pub returns-in-Access : goal.returns-in-Access
-returns-in-Access g c more = ap (λ s. trees_of c.args.list.now.items ++ of_suffixes (s plain.NoSuffixes) more) (sym (ap suffix_before c.in-Access.is ∙ suffix_before-Access _ _ _))
+pub returns-in-MemberAccess : goal.returns-in-MemberAccess
+returns-in-MemberAccess g c more = ap (λ s. trees_of c.args.list.now.items ++ of_suffixes (s plain.NoSuffixes) more) (sym (ap suffix_before c.in-MemberAccess.is ∙ suffix_before-MemberAccess _ _ _))
 
-pub returns-in-Step : goal.returns-in-Step
-returns-in-Step g c more = ap (λ s. trees_of c.args.list.now.items ++ of_suffixes (s plain.NoSuffixes) more) (sym (ap suffix_before c.in-Step.is ∙ suffix_before-Step _ _))
+pub returns-in-PostIncrement : goal.returns-in-PostIncrement
+returns-in-PostIncrement g c more = ap (λ s. trees_of c.args.list.now.items ++ of_suffixes (s plain.NoSuffixes) more) (sym (ap suffix_before c.in-PostIncrement.is ∙ suffix_before-PostIncrement _ _))

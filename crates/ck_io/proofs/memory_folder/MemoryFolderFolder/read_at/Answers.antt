@@ -4,7 +4,7 @@ use Rattle.std.specs.Option.{option_copied}
 use Rattle.std.specs.declared.string.String.{String}
 use Rattle.std.specs.declared.vec.Vec.{Vec}
 use Rattle.std.specs.Global.{Global}
-use Rattle.ck_io.specs.Outside.{names_of, bytes_of}
+use Rattle.ck_io.specs.Environment.{names_of, bytes_of}
 use Rattle.ck_io.specs.MemoryFiles.{files_of}
 use Rattle.ck_io.proofs.Told.{has_bytes}
 use Rattle.ck_io.proofs.memory_folder.MemoryFolderFolder.read_at.Goals as goal

@@ -8,6 +8,7 @@ names-tells g c = record {
   counted = c.ensures.counted;
   named = if_ok c.result _ (λ _. tt);
   failed = λ is. rose_by_one _ _ (c.ensures.failed is);
+  not_failed = c.ensures.not_failed;
 }
 
 pub read_at-tells : goal.read_at-tells
@@ -18,4 +19,5 @@ read_at-tells g c = record {
   read = if_ok c.result _ (λ _. tt);
   unread = on_err c.result _ _ (λ _. tt) c.ensures.failed;
   failed = on_err c.result _ _ (rose_by_one _ _) c.ensures.failed;
+  not_failed = c.ensures.not_failed;
 }

@@ -10,4 +10,5 @@ write-tells g c = record {
   takes = if_ok c.result _ (λ _. refl);
   takes_nothing = on_err c.result _ _ (λ _. refl) c.ensures.failed;
   failed = on_err c.result _ _ (rose_by_one _ _) c.ensures.failed;
+  not_failed = c.ensures.not_failed;
 }

@@ -1,5 +1,5 @@
-use Rattle.ck_syntax.proofs.Equations.{suffix_before-Step}
+use Rattle.ck_syntax.proofs.Equations.{suffix_before-PostIncrement}
 use Rattle.ck_syntax.proofs.expressions.Suffix.step.Goals as goal
 
 pub returns : goal.returns
-returns g c = suffix_before-Step _ _
+returns g c = suffix_before-PostIncrement _ _

@@ -1,5 +1,5 @@
-use Rattle.ck_syntax.proofs.StatementEquations.{statement_tree-Leave}
+use Rattle.ck_syntax.proofs.StatementEquations.{statement_tree-Jump}
 use Rattle.ck_syntax.proofs.statements.Stmt.leave.Goals as goal
 
 pub returns : goal.returns
-returns g c = statement_tree-Leave _ _ _
+returns g c = statement_tree-Jump _ _ _

@@ -1,0 +1,5 @@
+use Rattle.ck_grammar.proofs.AllRead.{one_expression}
+use Rattle.ck_grammar.proofs.laws.one_expression.Goals as goal
+
+pub returns : goal.returns
+returns c = one_expression

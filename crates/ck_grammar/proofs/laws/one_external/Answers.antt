@@ -1,0 +1,5 @@
+use Rattle.ck_grammar.proofs.FilesRead.{one_external}
+use Rattle.ck_grammar.proofs.laws.one_external.Goals as goal
+
+pub returns : goal.returns
+returns c = one_external

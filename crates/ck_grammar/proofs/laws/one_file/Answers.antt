@@ -1,0 +1,5 @@
+use Rattle.ck_grammar.proofs.FilesRead.{one_file}
+use Rattle.ck_grammar.proofs.laws.one_file.Goals as goal
+
+pub returns : goal.returns
+returns c = one_file

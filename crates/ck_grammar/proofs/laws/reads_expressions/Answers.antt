@@ -1,0 +1,5 @@
+use Rattle.ck_grammar.proofs.LongestRead.{reads_expressions}
+use Rattle.ck_grammar.proofs.laws.reads_expressions.Goals as goal
+
+pub returns : goal.returns
+returns c = reads_expressions

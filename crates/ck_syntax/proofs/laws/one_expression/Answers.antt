@@ -1,5 +1,0 @@
-use Rattle.ck_syntax.proofs.AllRead.{one_expression}
-use Rattle.ck_syntax.proofs.laws.one_expression.Goals as goal
-
-pub returns : goal.returns
-returns c = one_expression

@@ -1,5 +1,0 @@
-use Rattle.ck_syntax.proofs.OneLongest.{one_longest}
-use Rattle.ck_syntax.proofs.laws.one_longest.Goals as goal
-
-pub returns : goal.returns
-returns c = one_longest
