@@ -18,9 +18,9 @@ use Rattle.ck_graph.specs.Flow.{Flow, Point, point_count}
 use Rattle.ck_graph.specs.Forbidden.{alarm_in, alarm_of_outcome}
 use Rattle.ck_summary.specs.declared.reached.AlarmAt.{AlarmAt}
 use Rattle.ck_summary.specs.Solution.{rows_at}
-use Rattle.ck_summary.specs.Derived.{kind_at}
+use Rattle.ck_graph.specs.Steps.{kind_at}
 use Rattle.ck_summary.specs.Alarms.{HasAlarm, AreFound, Raises, RaisesIn, AddsAlarms}
-use Rattle.ck_summary.proofs.Graphs.{point_at_past}
+use Rattle.ck_graph.proofs.SoundGraphs.{point_at_past}
 use Rattle.ck_summary.proofs.StateCodes.{state_code-one}
 use Rattle.ck_summary.proofs.StateLemmas.{state_code-below}
 
@@ -71,7 +71,7 @@ AddedSoFar-pushed op rows n alarm old new raises s = record {
   ];
 }
 
-pub AddsAlarms-from_all : (op : Op) (rows : Rows) (point : ℕ) (old new : List AlarmAt) (n : ℕ) → 11 ≤ n → AddedSoFar op rows point old new n → AddsAlarms op rows point old new
+pub AddsAlarms-from_all : (op : Op) (rows : Rows) (point : ℕ) (old new : List AlarmAt) (n : ℕ) → 16 ≤ n → AddedSoFar op rows point old new n → AddsAlarms op rows point old new
 AddsAlarms-from_all op rows point old new n all s = record {
   kept = s.kept;
   added = λ a p r. s.added a p r (omega (arith, all, state_code-below r.state));

@@ -13,7 +13,7 @@ use Rattle.ck_graph.specs.Walk.{Frame, Configuration}
 use Rattle.ck_graph.specs.Forbidden.{PointAlarm, ReachesAlarm, AreAlarms, alarm_cmp, alarm_in}
 use Rattle.ck_summary.specs.declared.reached.AlarmAt.{AlarmAt}
 use Rattle.ck_summary.specs.Solution.{ReachesCodes, IsSolution}
-use Rattle.ck_summary.specs.Derived.{kind_at}
+use Rattle.ck_graph.specs.Steps.{kind_at}
 use Rattle.ck_summary.specs.Alarms.{alarm_of, alarms_of, HasAlarm, AreFound, IsInOrder}
 use Rattle.ck_summary.proofs.StateCodes.{state_code-one}
 use Rattle.ck_summary.proofs.AlarmLemmas.{alarm-there}

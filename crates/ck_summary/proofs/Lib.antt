@@ -1,6 +1,3 @@
-pub mod Graphs
-pub mod Soundness
-pub mod Completeness
 pub mod StateCodes
 pub mod Additions
 pub mod PointLemmas

@@ -18,9 +18,11 @@ use Rattle.ck_graph.specs.Flow.{Flow, point_at}
 use Rattle.ck_graph.specs.Faults.{IsSound, FitsKind}
 use Rattle.ck_graph.specs.Walk.{names_target}
 use Rattle.ck_summary.specs.Solution.{rows_at}
-use Rattle.ck_summary.specs.Derived.{kind_at, first_of, exit_of, HasEdge, IsCall, MayEnter, Leads, Derived, along_edge, by_act, into_call, over_call, DerivedCodes, AllDerived, IsClosedAt}
+use Rattle.ck_graph.specs.Steps.{kind_at, first_of, exit_of, HasEdge, IsCall, MayEnter, Leads}
+use Rattle.ck_graph.specs.Summary.{Derived, along_edge, by_act, into_call, over_call}
+use Rattle.ck_summary.specs.Derived.{DerivedCodes, AllDerived, IsClosedAt}
 use Rattle.ck_summary.specs.Growth.{IsAddition, LeadsTo, IsGrowth, IsClosedAtCall, AreEntries, IsStep}
-use Rattle.ck_summary.proofs.Graphs.{there-from_call}
+use Rattle.ck_graph.proofs.SoundGraphs.{there-from_call}
 use Rattle.ck_summary.proofs.StateCodes.{state_code-one}
 use Rattle.ck_summary.proofs.Additions.{IsGrowth-none, IsGrowth-then}
 

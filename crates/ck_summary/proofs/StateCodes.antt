@@ -1,7 +1,7 @@
 -- A state is known by its code.
 use Rattle.std.proofs.Common.{◌≡◌, ℕ, zero, suc, refl, sym, ap, ◌∙◌}
 use Rattle.ck_base.specs.declared.states.State.{State}
-use Rattle.ck_base.specs.declared.states.State.TheVariants.{TI, TN, TS, TD, TL, TP, HB, HO, HL, HE, FF}
+use Rattle.ck_base.specs.declared.states.State.TheVariants.{TI, TN, TS, TD, TL, TP, HB, HO, HL, HE, FF, XL, NL, NP, OX, ON}
 use Rattle.ck_base.specs.Act.{state_code}
 
 state_of_code : ℕ → State
@@ -15,7 +15,12 @@ state_of_code (suc (suc (suc (suc (suc (suc zero)))))) = HB
 state_of_code (suc (suc (suc (suc (suc (suc (suc zero))))))) = HO
 state_of_code (suc (suc (suc (suc (suc (suc (suc (suc zero)))))))) = HL
 state_of_code (suc (suc (suc (suc (suc (suc (suc (suc (suc zero))))))))) = HE
-state_of_code (suc (suc (suc (suc (suc (suc (suc (suc (suc (suc n)))))))))) = FF
+state_of_code (suc (suc (suc (suc (suc (suc (suc (suc (suc (suc zero)))))))))) = FF
+state_of_code (suc (suc (suc (suc (suc (suc (suc (suc (suc (suc (suc zero))))))))))) = XL
+state_of_code (suc (suc (suc (suc (suc (suc (suc (suc (suc (suc (suc (suc zero)))))))))))) = NL
+state_of_code (suc (suc (suc (suc (suc (suc (suc (suc (suc (suc (suc (suc (suc zero))))))))))))) = NP
+state_of_code (suc (suc (suc (suc (suc (suc (suc (suc (suc (suc (suc (suc (suc (suc zero)))))))))))))) = OX
+state_of_code _ = ON
 
 state-code : (s : State) → state_of_code (state_code s) ≡ s
 unfolding state_of_code
@@ -30,6 +35,11 @@ state-code HO = refl
 state-code HL = refl
 state-code HE = refl
 state-code FF = refl
+state-code XL = refl
+state-code NL = refl
+state-code NP = refl
+state-code OX = refl
+state-code ON = refl
 
 pub state_code-one : (s t : State) → state_code s ≡ state_code t → s ≡ t
 state_code-one s t e = sym (state-code s) ∙ (ap state_of_code e ∙ state-code t)

@@ -3,7 +3,7 @@ use Rattle.std.proofs.Common.{◌≡◌, ℕ, ◌+◌, ◌<◌, ◌≤◌, ◌�
 use Rattle.std.proofs.lemmas.Bool.{cases_eq}
 use Rattle.ck_base.specs.declared.ops.Op.{Op}
 use Rattle.ck_base.specs.declared.states.State.{State}
-use Rattle.ck_base.specs.declared.states.State.TheVariants.{TI, TN, TS, TD, TL, TP, HB, HO, HL, HE, FF}
+use Rattle.ck_base.specs.declared.states.State.TheVariants.{TI, TN, TS, TD, TL, TP, HB, HO, HL, HE, FF, XL, NL, NP, OX, ON}
 use Rattle.ck_base.specs.declared.states.Outcome.TheVariants.{Next}
 use Rattle.ck_base.specs.Act.{act, state_code}
 use Rattle.ck_rows.specs.declared.rows.Rows.{Rows}
@@ -11,7 +11,7 @@ use Rattle.ck_rows.specs.Relation.{Relates}
 use Rattle.ck_summary.specs.Growth.{AreEntries, IsStep}
 use Rattle.ck_summary.proofs.StateCodes.{state_code-one}
 
-pub state_code-below : (s : State) → state_code s < 11
+pub state_code-below : (s : State) → state_code s < 16
 state_code-below TI = omega arith
 state_code-below TN = omega arith
 state_code-below TS = omega arith
@@ -23,6 +23,11 @@ state_code-below HO = omega arith
 state_code-below HL = omega arith
 state_code-below HE = omega arith
 state_code-below FF = omega arith
+state_code-below XL = omega arith
+state_code-below NL = omega arith
+state_code-below NP = omega arith
+state_code-below OX = omega arith
+state_code-below ON = omega arith
 
 -- a single pair was added
 pub record IsOneMore (old new : Rows) (from to : ℕ) : Type 0 where
@@ -63,7 +68,7 @@ StepSoFar-stays op step state stops s = record {
   only = s.only;
 }
 
-pub IsStep-from_all : (op : Op) (step : Rows) (n : ℕ) → 11 ≤ n → StepSoFar op step n → IsStep op step
+pub IsStep-from_all : (op : Op) (step : Rows) (n : ℕ) → 16 ≤ n → StepSoFar op step n → IsStep op step
 IsStep-from_all op step n all s = record { leads = λ state next e. s.leads state next (omega (arith, all, state_code-below state)) e; only = s.only }
 
 -- the numbers below n

@@ -14,7 +14,9 @@ use Rattle.ck_graph.specs.declared.entries.Root.{Root}
 use Rattle.ck_graph.specs.Flow.{Flow, point_count, function_count}
 use Rattle.ck_graph.specs.Faults.{IsSound}
 use Rattle.ck_summary.specs.Solution.{rows_at, no_rows, HasNoPairs}
-use Rattle.ck_summary.specs.Derived.{first_of, Derived, at_root, AllDerived, HasRoots}
+use Rattle.ck_graph.specs.Steps.{first_of}
+use Rattle.ck_graph.specs.Summary.{Derived, at_root, HasRoots}
+use Rattle.ck_summary.specs.Derived.{HasPair, AllDerived}
 use Rattle.ck_summary.specs.Growth.{Keeps}
 use Rattle.ck_summary.proofs.Additions.{rows_at-set_same, rows_at-set_other}
 use Rattle.ck_summary.proofs.StateLemmas.{IsOneMore}
@@ -85,7 +87,7 @@ entered-more flow roots n root table new there within more before k other below 
   | inr ne ↦ kept-root table (first_of flow root.function.0) new (state_code root.start) (state_code root.start) within more (first_of flow other.function.0) (state_code other.start) (state_code other.start) (before k other (omega (arith, below, ne)) is)
 ]
 
-pub HasRoots-from_all : (flow : Flow) (roots : List Root) (table : List Rows) (n : ℕ) → length roots ≤ n → RootsSoFar flow roots table n → HasRoots flow roots table
+pub HasRoots-from_all : (flow : Flow) (roots : List Root) (table : List Rows) (n : ℕ) → length roots ≤ n → RootsSoFar flow roots table n → HasRoots flow roots (HasPair table)
 HasRoots-from_all flow roots table n all so_far root listed = so_far listed.0 root (omega (arith, all, listed.1)) (slice_get-get_or roots listed.0 root listed.1 ∙ ap Some listed.2)
 
 -- the same, where the function's first point and the state's code are known by equations

@@ -13,7 +13,7 @@ use Rattle.ck_graph.specs.Flow.{Flow}
 use Rattle.ck_graph.specs.Forbidden.{PointAlarm, alarm_cmp, alarm_in}
 use Rattle.ck_summary.specs.declared.reached.AlarmAt.{AlarmAt}
 use Rattle.ck_summary.specs.Solution.{rows_at}
-use Rattle.ck_summary.specs.Derived.{kind_at}
+use Rattle.ck_graph.specs.Steps.{kind_at}
 
 abbrev pub alarm_of : AlarmAt → PointAlarm
 alarm_of alarm = record { point = alarm.point.0; kind = alarm.kind }

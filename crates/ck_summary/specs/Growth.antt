@@ -13,7 +13,8 @@ use Rattle.ck_graph.specs.declared.points.Edge.{Edge}
 use Rattle.ck_graph.specs.declared.entries.Root.{Root}
 use Rattle.ck_graph.specs.Flow.{Flow}
 use Rattle.ck_summary.specs.Solution.{rows_at}
-use Rattle.ck_summary.specs.Derived.{AllDerived, HasEdge, exit_of, first_of}
+use Rattle.ck_graph.specs.Steps.{HasEdge, exit_of, first_of}
+use Rattle.ck_summary.specs.Derived.{AllDerived}
 
 -- how much all relations of the table can still grow by
 unfoldable pub table_room : List Rows → ℕ

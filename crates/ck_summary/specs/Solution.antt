@@ -6,9 +6,17 @@ use Rattle.ck_rows.specs.declared.rows.Rows.{Rows}
 use Rattle.ck_rows.specs.Relation.{Relates}
 use Rattle.ck_graph.specs.declared.entries.Root.{Root}
 use Rattle.ck_graph.specs.Flow.{Flow, point_count}
-use Rattle.ck_graph.specs.Walk.{Configuration, Reaches}
+use Rattle.ck_graph.specs.Summary.{ReachesPair}
 
--- a relation without a pair, for which a number stands that no point has
+-- a table as plain values: the relation of each point, in the order of the points' numbers
+pub record Summaries : Type 0 where
+  pub rows : List Rows
+
+-- the table was made for this graph
+pub record IsMadeFor (flow : Flow) (table : Summaries) : Type 0 where
+  pub points : length table.rows ≡ point_count flow
+
+-- what a number that no point has is read as: a relation without a pair
 abbrev pub no_rows : Rows
 no_rows = record { mask = [] }
 
@@ -20,14 +28,7 @@ rows_at table point = slice_index_or table point no_rows
 abbrev pub HasNoPairs : List Rows → Type 0
 HasNoPairs table = (point a b : ℕ) → Relates (rows_at table point) a b → ⊥
 
--- a walk from a root reaches this point in the state `to`, in a call that was entered in the state `from`
-pub record ReachesPair (flow : Flow) (roots : List Root) (point : ℕ) (from to : State) : Type 0 where
-  pub configuration : Configuration
-  pub reached : Reaches flow roots configuration
-  pub top : configuration.top ≡ record { point = point; entered = from }
-  pub state : configuration.state ≡ to
-
--- the same of the states' codes, which are the numbers of a table's relations
+-- a walk from a root reaches a pair of states of these codes, which are the numbers of a table's relations
 pub record ReachesCodes (flow : Flow) (roots : List Root) (point a b : ℕ) : Type 0 where
   pub from : State
   pub to : State

@@ -3,7 +3,8 @@ ghost use Rattle.std.specs.Prelude.{◌≡◌, ◌<◌, ℕ, length, false, All}
 ghost use Rattle.ck_graph.specs.Flow.{point_count};
 ghost use Rattle.ck_graph.specs.Faults.{IsSound};
 ghost use Rattle.ck_graph.specs.declared.points.Edge.{Edge};
-ghost use Rattle.ck_summary.specs.Derived.{IsCall, IsClosedAt, MayEnter};
+ghost use Rattle.ck_graph.specs.Steps.{IsCall, MayEnter};
+ghost use Rattle.ck_summary.specs.Derived.{IsClosedAt};
 ghost use Rattle.ck_summary.specs.Growth.{IsAddition, IsGrowth, IsClosedAtCall, LeadsTo};
 
 use crate::states::{entries_of, step_of};

@@ -1,8 +1,8 @@
 //! The alarms that a solved table has, in the order of a report.
-ghost use Rattle.std.specs.Prelude.{◌≡◌, ◌<◌, List, length, IfOk, OnOk, MatchOption};
+ghost use Rattle.std.specs.Prelude.{◌≡◌, ◌<◌, List, IfOk, OnOk, MatchOption};
 ghost use Rattle.ck_base.specs.declared.states.Kind.{Kind};
 ghost use Rattle.ck_graph.specs.declared.entries.Root.{Root};
-ghost use Rattle.ck_graph.specs.Flow.{point_at, point_count};
+ghost use Rattle.ck_graph.specs.Flow.{point_at};
 ghost use Rattle.ck_graph.specs.Forbidden.{
   AreAlarms,
   alarm_cmp,
@@ -12,7 +12,7 @@ ghost use Rattle.ck_graph.specs.Forbidden.{
   number_of,
   offset_of,
 };
-ghost use Rattle.ck_summary.specs.Solution.{IsSolution};
+ghost use Rattle.ck_summary.specs.Solution.{IsMadeFor, IsSolution};
 
 use crate::states::{STATES, is_reached, state_of};
 use crate::table::Table;
@@ -37,12 +37,12 @@ ghost use Rattle.ck_summary.specs.Alarms.{alarm_of, alarms_of, AreFound, AddsAla
 ///
 /// They come in the order of a report: by the number of the point's function, by the place of its site
 /// in the file (0 where it has none), by the orders round it, by its number, and by kind: SV#1 to
-/// SV#11, the priority order violation, P#1 to P#5.
+/// SV#11, the priority order violation, P#1 to P#8.
 pub fn alarms(alloc: Global, graph: &Graph, table: &Table) -> Result<Vec<AlarmAt>, OutOfMemory>
-    requires { length table.now ≡ point_count graph.now }
+    requires { IsMadeFor graph.now table.now }
     ensures { IfOk
         result
-        (λ alarms. (roots : List Root) → IsSolution graph.now roots table.now → AreAlarms graph.now roots (alarms_of alarms.items)) }
+        (λ alarms. (roots : List Root) → IsSolution graph.now roots table.now.rows → AreAlarms graph.now roots (alarms_of alarms.items)) }
 {
     let mut found = alarms_found(alloc, graph, table)?;
     put_in_order(graph, &mut found)?;
@@ -51,8 +51,8 @@ pub fn alarms(alloc: Global, graph: &Graph, table: &Table) -> Result<Vec<AlarmAt
 
 /// The alarms of all points. One that several states raise is there several times.
 fn alarms_found(alloc: Global, graph: &Graph, table: &Table) -> Result<Vec<AlarmAt>, OutOfMemory>
-    requires { length table.now ≡ point_count graph.now }
-    ensures { IfOk result (λ found. AreFound graph.now table.now found.items) }
+    requires { IsMadeFor graph.now table.now }
+    ensures { IfOk result (λ found. AreFound graph.now table.now.rows found.items) }
 {
     let mut found = Vec::new(alloc);
     for number in 0..graph.points() {

@@ -2,8 +2,9 @@
 ghost use Rattle.std.specs.Prelude.{◌≡◌, ◌<◌, ℕ, length, false, All};
 ghost use Rattle.ck_graph.specs.Flow.{point_count, function_count};
 ghost use Rattle.ck_graph.specs.Faults.{IsSound};
-ghost use Rattle.ck_summary.specs.Solution.{HasNoPairs, IsSolution};
-ghost use Rattle.ck_summary.specs.Derived.{AllDerived, HasRoots, IsClosedAt};
+ghost use Rattle.ck_summary.specs.Solution.{HasNoPairs, IsMadeFor, IsSolution};
+ghost use Rattle.ck_graph.specs.Summary.{HasRoots};
+ghost use Rattle.ck_summary.specs.Derived.{HasPair, AllDerived, IsClosedAt};
 ghost use Rattle.ck_summary.specs.Growth.{IsGrowth};
 
 use crate::passing::pass_on;
@@ -18,9 +19,10 @@ use ck_rows::{Rows, add_pair, no_pairs};
 /// was entered in the first. Calls may be recursive to any depth, and a return goes back to the call
 /// that it came from. What the table had before is forgotten. It takes no memory.
 pub fn solve(graph: &Graph, roots: &Roots, table: &mut Table)
-    requires table { length table.old ≡ point_count graph.now }
+    requires made { IsMadeFor graph.now table.old }
     requires roots { All (λ root. root.function.0 < function_count graph.now) roots.now.list.items }
-    ensures { IsSolution graph.now roots.now.list.items table.new }
+    ensures made { IsMadeFor graph.now table.new }
+    ensures solved { IsSolution graph.now roots.now.list.items table.new.rows }
 {
     fill(graph, &roots.list, &mut table.rows);
 }
@@ -53,7 +55,7 @@ fn enter_roots(graph: &Graph, roots: &[Root], table: &mut [Rows])
     requires roots { All (λ root. root.function.0 < function_count graph.now) roots.now }
     requires empty { HasNoPairs table.old }
     ensures derived { AllDerived graph.now roots.now table.new }
-    ensures entered { HasRoots graph.now roots.now table.new }
+    ensures entered { HasRoots graph.now roots.now (HasPair table.new) }
 {
     for root in roots {
         let first = graph.first(root.function);

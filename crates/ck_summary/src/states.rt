@@ -9,7 +9,7 @@ use ck_rows::{Rows, add_pair, has_pair, no_pairs};
 use ck_states::{Outcome, act};
 
 /// How many states there are.
-pub(crate) const STATES: usize = 11;
+pub(crate) const STATES: usize = 16;
 
 /// The number of a state.
 pub(crate) fn code(state: State) -> usize
@@ -28,6 +28,11 @@ pub(crate) fn code(state: State) -> usize
         State::HL => 8,
         State::HE => 9,
         State::FF => 10,
+        State::XL => 11,
+        State::NL => 12,
+        State::NP => 13,
+        State::OX => 14,
+        State::ON => 15,
     }
 }
 
@@ -47,7 +52,12 @@ pub(crate) fn state_of(number: usize) -> State
         7 => State::HO,
         8 => State::HL,
         9 => State::HE,
-        _ => State::FF,
+        10 => State::FF,
+        11 => State::XL,
+        12 => State::NL,
+        13 => State::NP,
+        14 => State::OX,
+        _ => State::ON,
     }
 }
 

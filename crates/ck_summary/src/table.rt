@@ -1,7 +1,6 @@
 //! The table of summaries.
 ghost use Rattle.std.specs.Prelude.{◌≡◌, ◌<◌, length, IfOk};
-ghost use Rattle.ck_graph.specs.Flow.{point_count};
-ghost use Rattle.ck_summary.specs.Solution.{rows_at, HasNoPairs};
+ghost use Rattle.ck_summary.specs.Solution.{rows_at, HasNoPairs, IsMadeFor};
 
 use ck_base::{OutOfMemory, PointId};
 use ck_graph::Graph;
@@ -10,26 +9,25 @@ use std::alloc::Global;
 use std::marker::Model;
 
 /// For each point of a graph, the pairs of the state in which the function was entered and a state at
-/// the point. It is seen as the list of these relations, in the order of the points' numbers.
+/// the point. It is seen as plain lists.
 #[derive(Debug, Drop)]
 pub struct Table {
     pub(crate) rows: Vec<Rows>,
 }
 
 impl Model for Table {
-    ghost use Rattle.std.specs.Prelude.{List};
-    ghost use Rattle.ck_rows.specs.declared.rows.Rows.{Rows};
+    ghost use Rattle.ck_summary.specs.Solution.{Summaries};
 
-    ghost Value = { List Rows };
+    ghost Value = { Summaries };
 
-    ghost view = { λ t. t.rows.items };
+    ghost view = { λ t. record { rows = t.rows.items } };
 }
 
 impl Table {
     /// A table for this graph, without pairs. It takes all the memory that `solve` needs.
     pub fn new(alloc: Global, graph: &Graph) -> Result<Table, OutOfMemory>
-        ensures whole { IfOk result (λ table. length table ≡ point_count graph.now) }
-        ensures empty { IfOk result HasNoPairs }
+        ensures made { IfOk result (IsMadeFor graph.now) }
+        ensures empty { IfOk result (λ table. HasNoPairs table.rows) }
     {
         let rows = vec![in alloc; no_pairs(); graph.points() as usize]?;
         Ok(Table { rows })
@@ -37,8 +35,8 @@ impl Table {
 
     /// The pairs of the state at the function's entry and the state at a point.
     pub fn rows(&self, point: PointId) -> &Rows
-        requires { point.0 < length self.now }
-        ensures { result.now ≡ rows_at self.now point.0 }
+        requires { point.0 < length self.now.rows }
+        ensures { result.now ≡ rows_at self.now.rows point.0 }
     {
         &self.rows[point.0 as usize]
     }

@@ -1,6 +1,6 @@
 //! Summaries and alarms of graphs by hand. Expected alarms are worked out from the state table.
-ghost use Rattle.std.specs.Prelude.{◌≡◌, ◌<◌, length, IfOk};
-ghost use Rattle.ck_graph.specs.Flow.{point_count};
+ghost use Rattle.std.specs.Prelude.{◌<◌, length, IfOk};
+ghost use Rattle.ck_summary.specs.Solution.{IsMadeFor};
 
 use crate::graphs::{Drawing, What, graph_of, roots_of};
 use ck_base::{Kind, Op, PointId, State};
@@ -202,7 +202,7 @@ const CASES: [Case; 9] = [
 
 /// The graph of a case with its solved table.
 fn solved(alloc: Global, case: &Case) -> Result<(Graph, Table), Fail>
-    ensures { IfOk result (λ pair. length pair.1 ≡ point_count pair.0) }
+    ensures { IfOk result (λ pair. IsMadeFor pair.0 pair.1) }
 {
     let graph = graph_of(alloc, &case.drawing)?;
     let roots = roots_of(alloc, &graph, case.roots)?;
@@ -230,7 +230,7 @@ fn alarms_of_graphs(rt: HostRuntime) -> Result<(), Fail> {
 
 /// Whether a table has the pair of two states, by their codes, at a point.
 fn has(table: &Table, point: u32, from: usize, to: usize) -> bool
-    requires point { point < length table.now }
+    requires point { point < length table.now.rows }
     requires from { from < 16 }
     requires to { to < 16 }
 {

@@ -1,7 +1,7 @@
 use Rattle.std.proofs.Common.{ap, arith}
 use Rattle.ck_base.specs.declared.spans.PointId.{PointId}
 use Rattle.ck_summary.specs.Solution.{rows_at}
-use Rattle.ck_summary.proofs.Graphs.{target-below}
+use Rattle.ck_graph.proofs.SoundGraphs.{target-below}
 use Rattle.ck_summary.proofs.PointLemmas.{IsImage, call-parts, quiet-parts, growth-call, closed-call}
 use Rattle.ck_summary.proofs.passing.pass_call.Goals as goal
 

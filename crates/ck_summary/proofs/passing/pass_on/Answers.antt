@@ -2,7 +2,7 @@ use Rattle.std.proofs.Common.{◌≡◌, length, sym, ◌∙◌, subst}
 use Rattle.ck_graph.specs.declared.points.PointKind.TheVariants.{Plain, Act, Call}
 use Rattle.ck_graph.specs.Faults.{FitsKind}
 use Rattle.ck_summary.specs.Solution.{rows_at}
-use Rattle.ck_summary.specs.Derived.{kind_at}
+use Rattle.ck_graph.specs.Steps.{kind_at}
 use Rattle.ck_summary.specs.Growth.{IsAddition, LeadsTo}
 use Rattle.ck_summary.proofs.PointLemmas.{edges_at, growth-plain, closed-plain, growth-act, closed-act, closed-calls}
 use Rattle.ck_summary.proofs.passing.pass_on.Goals as goal

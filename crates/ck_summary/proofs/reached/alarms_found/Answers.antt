@@ -1,6 +1,6 @@
 use Rattle.std.proofs.Common.{◌≡◌, ◌+◌, sym, ap, subst, ◌∙◌, arith}
 use Rattle.ck_graph.specs.declared.points.PointKind.TheVariants.{Act}
-use Rattle.ck_summary.specs.Derived.{kind_at}
+use Rattle.ck_graph.specs.Steps.{kind_at}
 use Rattle.ck_summary.specs.Alarms.{AddsAlarms}
 use Rattle.ck_summary.proofs.AlarmLemmas.{FoundSoFar, FoundSoFar-act, FoundSoFar-other, AreFound-from_all}
 use Rattle.ck_summary.proofs.reached.alarms_found.Goals as goal
@@ -9,7 +9,7 @@ use Rattle.ck_summary.proofs.reached.alarms_found.Goals.{in-Act+in_ok-add_alarms
 pub loop-number-preserved : goal.loop-number-preserved
 loop-number-preserved c =
     let flow = c.args.graph.now in
-    let table = c.args.table.now in
+    let table = c.args.table.now.rows in
     let n = c.loop-number.number in
     let old = c.loop-number.found.items in
     elim c.match-kind.branch [
@@ -24,4 +24,4 @@ loop-number-preserved c =
     ]
 
 pub returns : goal.returns
-returns c = AreFound-from_all c.args.graph.now c.args.table.now c.loop-number.found.items c.loop-number.number (omega (arith, c.points-number-end.ensures.count)) c.loop-number.invariant
+returns c = AreFound-from_all c.args.graph.now c.args.table.now.rows c.loop-number.found.items c.loop-number.number (omega (arith, c.points-number-end.ensures.count)) c.loop-number.invariant

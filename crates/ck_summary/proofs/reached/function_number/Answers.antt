@@ -1,5 +1,5 @@
 use Rattle.std.proofs.Common.{sym, ap, arith}
-use Rattle.ck_summary.proofs.Graphs.{point_at_past}
+use Rattle.ck_graph.proofs.SoundGraphs.{point_at_past}
 use Rattle.ck_summary.proofs.reached.function_number.Goals as goal
 
 pub returns-else-point-points : goal.returns-else-point-points

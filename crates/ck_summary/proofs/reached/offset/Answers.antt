@@ -1,6 +1,6 @@
 use Rattle.std.proofs.Common.{sym, ap, arith}
 use Rattle.ck_graph.specs.Forbidden.{offset_of}
-use Rattle.ck_summary.proofs.Graphs.{point_at_past}
+use Rattle.ck_graph.proofs.SoundGraphs.{point_at_past}
 use Rattle.ck_summary.proofs.reached.offset.Goals as goal
 
 pub returns-then-point-points : goal.returns-then-point-points

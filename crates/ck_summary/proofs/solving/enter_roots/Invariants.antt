@@ -3,7 +3,8 @@ use Rattle.ck_base.specs.Act.{state_code}
 use Rattle.ck_rows.specs.Relation.{Relates}
 use Rattle.ck_graph.specs.declared.entries.Root.{Root}
 use Rattle.ck_summary.specs.Solution.{rows_at}
-use Rattle.ck_summary.specs.Derived.{AllDerived, first_of}
+use Rattle.ck_graph.specs.Steps.{first_of}
+use Rattle.ck_summary.specs.Derived.{AllDerived}
 use Rattle.ck_summary.proofs.solving.enter_roots.Given as goal
 
 -- the roots so far are entered, and nothing else is there
