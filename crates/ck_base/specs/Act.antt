@@ -36,20 +36,21 @@ pub data Effect : Type 0 where
   Ends : Effect
   Raises : Kind → Effect
 
--- SV#n and P#n
+-- the alarms SV#n and P#n
 abbrev pub sv : ℕ → Effect
 sv n = Raises (Sv n)
 
 abbrev pub p : ℕ → Effect
 p n = Raises (P n)
 
--- A row of the table. `states ⇒ effect ∥ rest` has the effect in these states, and elsewhere is the rest of the row: the first
--- entry that names the state counts.
+-- A row of the table. `states ⇒ effect ∥ rest` has the effect in these states, and elsewhere is the rest of the row. So
+-- the first entry that names the state counts.
 infixr 6 ◌⇒◌∥◌
 pub data Row : Type 0 where
   ◌⇒◌∥◌ : List State → Effect → Row → Row
   Otherwise : Effect → Row
 
+-- all threads
 abbrev pub threads : List State
 threads = TI ∷ TN ∷ TS ∷ TD ∷ TL ∷ TP ∷ XL ∷ NL ∷ NP ∷ []
 

@@ -1,14 +1,17 @@
-//! The words that every part of the checker speaks: spans and numbers of things, the ops of kernel
+//! The words that every part of the checker speaks: files, spans and numbers of things, the ops of kernel
 //! calls, the system states with what a call does in them, the refusals, the faults of a settings file.
 //!
 //! In: nothing. Out: plain types, `number` and `words` of a refusal, which names are the kernel's, and
 //! the law that ties the state table to the kernel's own checks. The definitions that rule it are
 //! `specs/Act.antt` (the state table of docs/STATES.md), `specs/Counters.antt` (the kernel's eleven
-//! checks on its two counters), `specs/Refusals.antt` and `specs/KernelNames.antt`.
+//! checks on its two counters, and its status pair), `specs/Refusals.antt` and `specs/KernelNames.antt`.
+//! `specs/TokenText.antt` and `specs/Characters.antt` are for the crates above.
 //!
 //! It must not know: files, bytes, C, how settings are read, and how anything is computed.
 #![tactic(auto)]
 
+mod events;
+mod files;
 mod kernel_names;
 mod laws;
 mod ops;
@@ -18,6 +21,8 @@ mod spans;
 mod states;
 mod tokens;
 
+pub use events::Event;
+pub use files::SourceFile;
 pub use kernel_names::is_kernel_name;
 pub use laws::table_follows_the_kernel;
 pub use ops::Op;

@@ -11,9 +11,9 @@ pub enum State {
     TS,
     /// A thread with interrupts disabled.
     TD,
-    /// A thread in a critical section.
+    /// A thread in a critical section. No reschedule is due.
     TL,
-    /// A thread in a critical section, with a reschedule due.
+    /// A thread in a critical section. A reschedule is due.
     TP,
     /// A handler before its prologue.
     HB,
@@ -25,15 +25,15 @@ pub enum State {
     HE,
     /// A fast handler, which may make no kernel call.
     FF,
-    /// A thread in a critical section that a status pair entered.
+    /// A thread in a status pair, which found it in TN and locked it.
     XL,
-    /// A thread in a status pair that found it in TL.
+    /// A thread in a status pair, which found it locked. No reschedule is due.
     NL,
-    /// A thread in a status pair, with a reschedule due, as one that the pair found in TP.
+    /// A thread in a status pair, which found it locked. A reschedule is due.
     NP,
-    /// A handler in a critical section that a status pair entered.
+    /// A handler in a status pair, which found it in HO and locked it.
     OX,
-    /// A handler in a status pair that found it in HL.
+    /// A handler in a status pair, which found it in HL.
     ON,
 }
 

@@ -18,7 +18,7 @@ pub enum TokenKind {
     Mark,
 }
 
-/// A token with the bytes that it stands on.
+/// A token with the bytes that it is written with (`specs/TokenText.antt`).
 #[derive(Clone, Copy, Debug, PartialEq, Eq)]
 pub struct Token {
     pub kind: TokenKind,

@@ -13,7 +13,7 @@ use Rattle.ck_grammar.specs.Trees.{Expr}
 use Rattle.ck_grammar.specs.Words.{word_of}
 use Rattle.ck_grammar.specs.Written.{written}
 
--- the tree is written at the front of these tokens, and these stand after it
+-- the tree is written at the front of these tokens, and these are after it
 pub record Begins (e : Expr) (rest : List Token) (bytes : List ℕ) (tokens : List Token)
     (typedefs : List (List ℕ)) : Type 0 where
   pub tokens_are : written e rest ≡ tokens

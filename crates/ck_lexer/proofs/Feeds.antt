@@ -55,7 +55,7 @@ pub place_read : (name bytes : List ℕ) (offset : ℕ) (text : List ℕ) (k l c
 place_read name bytes offset text k l c d line column is =
     subst (λ x. IsPlace name bytes offset (place_with text x d)) line (subst (λ x. IsPlace name bytes offset (place_with text k x)) column is)
 
--- where no marker's line feed stands between two places, the second has the first's name, and a line more for each feed
+-- where no marker's line feed found between two places, the second has the first's name, and a line more for each feed
 pub place_on_from : (name bytes : List ℕ) (from to : ℕ) (p : Place) (line column : ℕ) → from ≤ to → to ≤ length bytes → NoMarkers bytes from to → line_feeds (take to bytes) + p.line ≡ line_feeds (take from bytes) + line → column_at bytes to ≡ column → IsPlace name bytes from p → IsPlace name bytes to (place_with p.name line column)
 place_on_from name bytes from to _ line column up within none lines columns (of_file before) =
     place_read name bytes to name (line_feeds (take to bytes) + 1) line (column_at bytes to) column (omega arith) columns

@@ -69,7 +69,7 @@ lines_on name bytes names lines on at are inside plain = record {
       (order m.end at);
 }
 
--- what a new line behind the others needs
+-- what a new line after the others needs
 record IsNewLine (name bytes : List ℕ) (names : List (List ℕ)) (lines : List Line) (line : Line) : Type 0 where
   start : IsLineStart name bytes names line
   all : All (IsLineOf name bytes names) lines
@@ -162,7 +162,7 @@ lines_end name bytes m on at are end small = record {
   next = λ k inside feed. are.next k (omega arith) feed;
 }
 
--- from the last line that starts before an offset no line feed stands up to it
+-- from the last line that starts before an offset no line feed found up to it
 no_feeds_from : (name bytes : List ℕ) (m : PlaceMap) (offset : ℕ) (line : Line) → IsPlaceMapOf name bytes m → offset ≤ length bytes → IsLastBefore m.lines.items offset line → NoFeeds bytes line.start offset
 no_feeds_from name bytes m offset line is within last at low high =
     no-test (is_line_feed (slice_index bytes at)) (λ feed.

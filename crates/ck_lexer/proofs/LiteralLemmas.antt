@@ -12,7 +12,7 @@ pub either : {P : Type 0} (v : Bool) → (v ≡ true → P) → (v ≡ false →
 either true p q = p refl
 either false p q = q refl
 
--- the first `n` bytes are the rest of a literal behind its first quote
+-- the first `n` bytes are the rest of a literal after its first quote
 abbrev pub ClosedAt : ℕ → List ℕ → ℕ → Type 0
 ClosedAt mark text n = (is_closed mark (take n text) ≡ true) × (n ≤ length text) × (0 < n)
 
@@ -38,13 +38,13 @@ abbrev ClosingCloses : ℕ → List ℕ → Type 0
 ClosingCloses mark text = (n : ℕ) → closing mark text ≡ Some n → ClosedAt mark text n
 
 closing_step : (mark b c : ℕ) (text : List ℕ) → ClosingCloses mark text → ClosingCloses mark (c ∷ text) → ClosingCloses mark (b ∷ c ∷ text)
-closing_step mark b c text behind next n e = either (b == backslash) escaped plain where
+closing_step mark b c text after next n e = either (b == backslash) escaped plain where
   escaped : (b == backslash) ≡ true → ClosedAt mark (b ∷ c ∷ text) n
   escaped escape = either (is_line_feed c) (λ feed. absurd (none-some n (rw (escape, feed) at e))) go where
     go : is_line_feed c ≡ false → ClosedAt mark (b ∷ c ∷ text) n
     go other =
         let rest = mapped (λ k. k + 2) (closing mark text) n (rw (escape, other) at e) in
-        closed_escape mark b c text rest.0 n escape other (behind rest.0 rest.1) rest.2
+        closed_escape mark b c text rest.0 n escape other (after rest.0 rest.1) rest.2
 
   plain : (b == backslash) ≡ false → ClosedAt mark (b ∷ c ∷ text) n
   plain no_escape = either (b == mark) ends goes_on where
@@ -86,7 +86,7 @@ not_true true e = cc
 not_true false e = refl
 
 all_step : (mark b c : ℕ) (text more : List ℕ) → (is_closed mark text ≡ true → ClosesAll mark text more) → (is_closed mark (c ∷ text) ≡ true → ClosesAll mark (c ∷ text) more) → is_closed mark (b ∷ c ∷ text) ≡ true → ClosesAll mark (b ∷ c ∷ text) more
-all_step mark b c text more behind next e = either (b == backslash) escaped plain where
+all_step mark b c text more after next e = either (b == backslash) escaped plain where
   two : length text + 2 ≡ suc (suc (length text))
   two = omega arith
 
@@ -97,7 +97,7 @@ all_step mark b c text more behind next e = either (b == backslash) escaped plai
   escaped escape =
       let parts = and_parts (not (is_line_feed c)) (is_closed mark text) (rw escape at e) in
       let inner : is_line_feed c ≡ false = not_true (is_line_feed c) parts.0 in
-      rw (escape, inner) (some_more 2 (length text) (closing mark (text ++ more)) (suc (suc (length text))) (behind parts.1) two)
+      rw (escape, inner) (some_more 2 (length text) (closing mark (text ++ more)) (suc (suc (length text))) (after parts.1) two)
 
   plain : (b == backslash) ≡ false → ClosesAll mark (b ∷ c ∷ text) more
   plain no_escape =
@@ -117,10 +117,10 @@ abbrev EndsWith : ℕ → List ℕ → Type 0
 EndsWith mark text = (inner : List ℕ) × (text ≡ inner ++ mark ∷ [])
 
 last_step : (mark b c : ℕ) (text : List ℕ) → (is_closed mark text ≡ true → EndsWith mark text) → (is_closed mark (c ∷ text) ≡ true → EndsWith mark (c ∷ text)) → is_closed mark (b ∷ c ∷ text) ≡ true → EndsWith mark (b ∷ c ∷ text)
-last_step mark b c text behind next e = either (b == backslash) escaped plain where
+last_step mark b c text after next e = either (b == backslash) escaped plain where
   escaped : (b == backslash) ≡ true → EndsWith mark (b ∷ c ∷ text)
   escaped escape =
-      let rest = behind (and_parts (not (is_line_feed c)) (is_closed mark text) (rw escape at e)).1 in
+      let rest = after (and_parts (not (is_line_feed c)) (is_closed mark text) (rw escape at e)).1 in
       (b ∷ c ∷ rest.0, ap (λ t. b ∷ c ∷ t) rest.1)
 
   plain : (b == backslash) ≡ false → EndsWith mark (b ∷ c ∷ text)

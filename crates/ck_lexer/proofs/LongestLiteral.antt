@@ -5,7 +5,7 @@ use Rattle.std.proofs.lemmas.Bool.Decides.{nat_tests}
 use Rattle.std.proofs.lemmas.List.{length-take-le}
 use Rattle.ck_lexer.specs.Bytes.{is_quote, quote, double_quote, backslash}
 use Rattle.ck_lexer.specs.Preprocessing.{is_identifier, is_number, is_literal, is_quoted, is_closed, is_punctuator, is_preprocessing_token}
-use Rattle.ck_lexer.specs.Pieces.{IsLongestToken, BeginsNoToken}
+use Rattle.ck_lexer.specs.Lexemes.{IsLongestToken, BeginsNoToken}
 use Rattle.ck_lexer.specs.Scanning.{closing}
 use Rattle.ck_lexer.proofs.Tests.{and-left, and-right, and-both, or-left, or-right, or-either, eqb-same}
 use Rattle.ck_lexer.proofs.FirstBytes.{no_token, number-first, punctuator-first, identifier-first, single-quote, nondigit-quote}

@@ -65,7 +65,7 @@ abbrev Read : Option (ℕ × List ℕ) → ℕ → List ℕ → Type 0
 Read o number name = o ≡ Some (number, name)
 
 end_complete : (number n : ℕ) (text name flags : List ℕ) (o : Option ℕ) → o ≡ Some n → take (n - 1) text ≡ name → drop n text ≡ flags → are_flags flags ≡ true → Read (marker_end number text o) number name
-end_complete number n text name flags o e front behind flagged = rw (e, front, behind, flagged) refl
+end_complete number n text name flags o e front after flagged = rw (e, front, after, flagged) refl
 
 name_complete : (number : ℕ) (name flags : List ℕ) → is_closed double_quote (name ++ double_quote ∷ []) ≡ true → are_flags flags ≡ true → Read (marker_name number (double_quote ∷ (name ++ (double_quote ∷ flags)))) number name
 name_complete number name flags is_quoted flagged =
@@ -80,10 +80,10 @@ name_complete number name flags is_quoted flagged =
     flagged
 
 digits_complete : (n number : ℕ) (text digits rest last name : List ℕ) → 1 ≤ n → n ≤ 9 → take n text ≡ digits → drop n text ≡ rest → after_blanks rest ≡ last → Read (marker_name (value_of 10 digits) last) number name → Read (marker_digits n text) number name
-digits_complete n number text digits rest last name some few front behind blanks named =
+digits_complete n number text digits rest last name some few front after blanks named =
     let low : nat_le 1 n ≡ true = le-leb 1 n some in
     let high : nat_le n 9 ≡ true = le-leb n 9 few in
-    rw (low, high, front, behind, blanks) named
+    rw (low, high, front, after, blanks) named
 
 number_complete : (digits between name flags : List ℕ) → list_all is_digit digits ≡ true → 0 < length digits → length digits ≤ 9 → list_all is_blank between ≡ true → is_closed double_quote (name ++ double_quote ∷ []) ≡ true → are_flags flags ≡ true → Read (marker_number (digits ++ (between ++ (double_quote ∷ (name ++ (double_quote ∷ flags)))))) (value_of 10 digits) name
 number_complete digits between name flags all some few blanks is_quoted flagged =
@@ -117,8 +117,8 @@ record IsNamed (text name : List ℕ) : Type 0 where
   quoted : is_closed double_quote (name ++ double_quote ∷ []) ≡ true
   flagged : are_flags flags ≡ true
 
-front_of_closed : (n : ℕ) (text inner : List ℕ) (mark : ℕ) → n ≤ length text → take n text ≡ inner ++ mark ∷ [] → take (n - 1) text ≡ inner
-front_of_closed n text inner mark within e =
+prefix_of_closed : (n : ℕ) (text inner : List ℕ) (mark : ℕ) → n ≤ length text → take n text ≡ inner ++ mark ∷ [] → take (n - 1) text ≡ inner
+prefix_of_closed n text inner mark within e =
     let size : length (inner ++ mark ∷ []) ≡ length inner + 1 = length-append inner (mark ∷ []) in
     let same : length (take n text) ≡ length (inner ++ mark ∷ []) = ap length e in
     let all : length (take n text) ≡ n = length-take-le n text within in
@@ -129,7 +129,7 @@ closed_sound : (n : ℕ) (text name : List ℕ) → closing double_quote text �
 closed_sound n text name e front flagged =
     let here = closing-is_closed double_quote text n e in
     let last = is_closed-last double_quote (take n text) here.0 in
-    let same : last.0 ≡ name = sym (front_of_closed n text last.0 double_quote here.1 last.1) ∙ front in
+    let same : last.0 ≡ name = sym (prefix_of_closed n text last.0 double_quote here.1 last.1) ∙ front in
     let taken : take n text ≡ name ++ double_quote ∷ [] = last.1 ∙ ap (λ t. t ++ double_quote ∷ []) same in
     record {
       flags = drop n text;

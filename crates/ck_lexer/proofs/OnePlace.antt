@@ -3,31 +3,31 @@ use Rattle.std.proofs.Common.{◌≡◌, ℕ, zero, suc, ◌+◌, ◌<◌, ◌�
 use Rattle.std.specs.Prelude.{slice_range}
 use Rattle.std.specs.List.{prefix_len}
 use Rattle.ck_lexer.specs.Bytes.{is_no_line_feed}
-use Rattle.ck_lexer.specs.Cuts.{ArePieces, Ended, StandsAt, is_clear}
+use Rattle.ck_lexer.specs.Cuts.{AreLexemes, Ended, IsLexeme, is_clear}
 use Rattle.ck_lexer.specs.Markers.{IsMarker, hash}
-use Rattle.ck_lexer.specs.Pieces.{Hash, Stands, beginning_of}
+use Rattle.ck_lexer.specs.Lexemes.{Hash, IsLexemeOf, beginning_of}
 use Rattle.ck_lexer.specs.Places.{IsMarkerOf, IsPlace, Marker, Place, column_at, line_feeds, of_file, of_marker}
-use Rattle.ck_lexer.specs.declared.pieces.Piece.{Piece}
+use Rattle.ck_lexer.specs.declared.lexemes.Lexeme.{Lexeme}
 use Rattle.ck_lexer.proofs.OneMarker.{one_marker}
-use Rattle.ck_lexer.proofs.OnePiece.{one_order, one_piece}
+use Rattle.ck_lexer.proofs.OneLexeme.{one_order, one_lexeme}
 
-pub pieces_rise : (bytes : List ℕ) (from to : ℕ) (ps : List Ended) → ArePieces bytes from ps to → from ≤ to
-pieces_rise bytes from to [] are = omega arith
-pieces_rise bytes from to (p ∷ ps) are =
-    let rest : p.end ≤ to = pieces_rise bytes p.end to ps are.1 in
+pub lexemes_rise : (bytes : List ℕ) (from to : ℕ) (ps : List Ended) → AreLexemes bytes from ps to → from ≤ to
+lexemes_rise bytes from to [] are = omega arith
+lexemes_rise bytes from to (p ∷ ps) are =
+    let rest : p.end ≤ to = lexemes_rise bytes p.end to ps are.1 in
     let first : p.end ≡ from + are.0.size = are.0.ends in
     omega arith
 
 -- of two reached places the further one is reached through the other
-pub passes_through : (bytes : List ℕ) (from a b : ℕ) (ps qs : List Ended) → ArePieces bytes from ps a → ArePieces bytes from qs b → a < b → (p : Ended) × StandsAt bytes a p.end p.piece × (p.end ≤ b)
+pub passes_through : (bytes : List ℕ) (from a b : ℕ) (ps qs : List Ended) → AreLexemes bytes from ps a → AreLexemes bytes from qs b → a < b → (p : Ended) × IsLexeme bytes a p.end p.lexeme × (p.end ≤ b)
 passes_through bytes from a b [] [] p q less = absurd (omega arith)
-passes_through bytes from a b [] (y ∷ ys) p q less = (y, subst (λ at. StandsAt bytes at y.end y.piece) p q.0, pieces_rise bytes y.end b ys q.1)
+passes_through bytes from a b [] (y ∷ ys) p q less = (y, subst (λ at. IsLexeme bytes at y.end y.lexeme) p q.0, lexemes_rise bytes y.end b ys q.1)
 passes_through bytes from a b (x ∷ xs) [] p q less =
-    let up : from ≤ a = pieces_rise bytes from a (x ∷ xs) p in
+    let up : from ≤ a = lexemes_rise bytes from a (x ∷ xs) p in
     absurd (omega arith)
 passes_through bytes from a b (x ∷ xs) (y ∷ ys) p q less =
-    let same : x.end ≡ y.end = (one_piece bytes from x.end y.end x.piece y.piece p.0 q.0).0 in
-    passes_through bytes x.end a b xs ys p.1 (subst (λ at. ArePieces bytes at ys b) (sym same) q.1) less
+    let same : x.end ≡ y.end = (one_lexeme bytes from x.end y.end x.lexeme y.lexeme p.0 q.0).0 in
+    passes_through bytes x.end a b xs ys p.1 (subst (λ at. AreLexemes bytes at ys b) (sym same) q.1) less
 
 same_head : (b : ℕ) (text line : List ℕ) → b ∷ text ≡ hash ∷ line → b ≡ hash
 same_head b text line e = cc
@@ -44,18 +44,18 @@ marker_first n rest number name m = hash_first n rest _ m.text
 pub begins_line : (clear : Bool) (rest : List ℕ) → clear ≡ true → slice_index rest 0 ≡ hash → beginning_of clear rest ≡ Hash
 begins_line clear rest is_clear first = rw (is_clear, first) refl
 
--- the piece at a marker's `#` ends where the marker ends
-pub marker_stands : (bytes : List ℕ) (m : Marker) (is : IsMarkerOf bytes m) (end : ℕ) (piece : Piece) → StandsAt bytes is.start end piece → end ≡ m.end
-marker_stands bytes m is end piece stands =
+-- the lexeme at a marker's `#` ends where the marker ends
+pub marker_lexeme : (bytes : List ℕ) (m : Marker) (is : IsMarkerOf bytes m) (end : ℕ) (lexeme : Lexeme) → IsLexeme bytes is.start end lexeme → end ≡ m.end
+marker_lexeme bytes m is end lexeme found =
     let rest : List ℕ = drop is.start bytes in
     let first = marker_first (prefix_len is_no_line_feed rest) rest m.number m.name is.text in
-    let line : Stands Hash rest stands.size piece = subst (λ how. Stands how rest stands.size piece) (begins_line (is_clear (take is.start bytes)) rest is.clear first.0) stands.front.1 in
-    stands.ends ∙ (ap (λ n. is.start + n) line.0 ∙ sym is.end)
+    let line : IsLexemeOf Hash rest found.size lexeme = subst (λ how. IsLexemeOf how rest found.size lexeme) (begins_line (is_clear (take is.start bytes)) rest is.clear first.0) found.is.1 in
+    found.ends ∙ (ap (λ n. is.start + n) line.0 ∙ sym is.end)
 
 later_ends_later : (bytes : List ℕ) (m n : Marker) (a : IsMarkerOf bytes m) (b : IsMarkerOf bytes n) → a.start < b.start → m.end < n.end
 later_ends_later bytes m n a b less =
     let through = passes_through bytes 0 a.start b.start a.reached.0 b.reached.0 a.reached.1 b.reached.1 less in
-    let here : through.0.end ≡ m.end = marker_stands bytes m a through.0.end through.0.piece through.1 in
+    let here : through.0.end ≡ m.end = marker_lexeme bytes m a through.0.end through.0.lexeme through.1 in
     let some : 0 < prefix_len is_no_line_feed (drop b.start bytes) = (marker_first (prefix_len is_no_line_feed (drop b.start bytes)) (drop b.start bytes) n.number n.name b.text).1 in
     let ends : n.end ≡ b.start + prefix_len is_no_line_feed (drop b.start bytes) = b.end in
     let before : through.0.end ≤ b.start = through.2 in

@@ -2,7 +2,7 @@
 use Rattle.std.proofs.Common.{◌≡◌, ℕ, zero, suc, ◌<◌, ◌≤◌, Bool, true, false, List, [], ◌∷◌, length, take, get_or, refl, sym, arith, ⊎_elim}
 use Rattle.std.specs.Prelude.{◌&&◌, ◌||◌, ◌==◌, codes, if◌then◌else◌}
 use Rattle.ck_lexer.specs.Preprocessing.{is_punctuator, punctuators}
-use Rattle.ck_lexer.specs.Scanning.{is_one_of, is_shift_assignment, is_ellipsis, is_pair, is_single, mark_size}
+use Rattle.ck_lexer.specs.Scanning.{is_one_of, is_shift_assignment, is_ellipsis, is_pair, is_single, punctuator_size}
 use Rattle.ck_lexer.proofs.Tests.{and-left, and-right, and-not_right, or-either, or-none, no-test, eqb-same, among-texts, among-bytes}
 
 -- the punctuators by their bytes
@@ -118,7 +118,7 @@ no_second a =
       zero_doubled e h = let k : is_one_of (codes "+-<>&|") a ≡ false = rw e refl in absurd (cc)
 
 -- a punctuator at the front is no longer than the one that the code takes
-pub punctuator-le : (rest : List ℕ) (m : ℕ) → is_punctuator (take m rest) ≡ true → m ≤ length rest → m ≤ mark_size rest
+pub punctuator-le : (rest : List ℕ) (m : ℕ) → is_punctuator (take m rest) ≡ true → m ≤ length rest → m ≤ punctuator_size rest
 punctuator-le rest zero h fits = omega arith
 punctuator-le [] (suc m) h fits = absurd (omega arith)
 punctuator-le (a ∷ rest) (suc zero) h fits = takes-one (is_shift_assignment a (get_or rest 0 0) (get_or rest 1 0) || is_ellipsis a (get_or rest 0 0) (get_or rest 1 0)) (is_pair a (get_or rest 0 0)) (is_single a) (punctuator-mark (a ∷ []) h)
@@ -129,7 +129,7 @@ punctuator-le (a ∷ b ∷ c ∷ rest) (suc (suc (suc zero))) h fits = takes-thr
 punctuator-le (a ∷ b ∷ c ∷ []) (suc (suc (suc (suc m)))) h fits = absurd (omega arith)
 punctuator-le (a ∷ b ∷ c ∷ d ∷ rest) (suc (suc (suc (suc m)))) h fits = let k = punctuator-mark (a ∷ b ∷ c ∷ d ∷ take m rest) h in absurd (cc)
 
-pub mark-fits : (rest : List ℕ) → mark_size rest ≤ length rest
+pub mark-fits : (rest : List ℕ) → punctuator_size rest ≤ length rest
 mark-fits [] = omega arith
 mark-fits (a ∷ []) = sized-one (is_shift_assignment a 0 0 || is_ellipsis a 0 0) (is_pair a 0) (is_single a) (no_third a 0) (no_second a)
 mark-fits (a ∷ b ∷ []) = sized-two (is_shift_assignment a b 0 || is_ellipsis a b 0) (is_pair a b) (is_single a) (no_third a b)
@@ -148,15 +148,15 @@ three_sized : (a b c : ℕ) (rest : List ℕ) (three two one : Bool) → (three 
 three_sized a b c rest true two one f g h some = f refl
 three_sized a b c rest false two one f g h some = two_sized a b (c ∷ rest) two one g h some
 
-pub mark-punctuator : (rest : List ℕ) → 0 < mark_size rest → is_punctuator (take (mark_size rest) rest) ≡ true
+pub mark-punctuator : (rest : List ℕ) → 0 < punctuator_size rest → is_punctuator (take (punctuator_size rest) rest) ≡ true
 mark-punctuator [] some = absurd (omega arith)
 mark-punctuator (a ∷ []) some =
     let no : (is_shift_assignment a 0 0 || is_ellipsis a 0 0) ≡ false = no_third a 0 in
-    let size : mark_size (a ∷ []) ≡ sized false false (is_single a) = rw (no, no_second a) refl in
+    let size : punctuator_size (a ∷ []) ≡ sized false false (is_single a) = rw (no, no_second a) refl in
     rw size (one_sized a [] (is_single a) (single-punctuator a) (omega arith))
 mark-punctuator (a ∷ b ∷ []) some =
     let no : (is_shift_assignment a b 0 || is_ellipsis a b 0) ≡ false = no_third a b in
-    let size : mark_size (a ∷ b ∷ []) ≡ sized false (is_pair a b) (is_single a) = rw no refl in
+    let size : punctuator_size (a ∷ b ∷ []) ≡ sized false (is_pair a b) (is_single a) = rw no refl in
     rw size (two_sized a b [] (is_pair a b) (is_single a) (pair-punctuator a b) (single-punctuator a) (omega arith))
 mark-punctuator (a ∷ b ∷ c ∷ rest) some =
     three_sized a b c rest (is_shift_assignment a b c || is_ellipsis a b c) (is_pair a b) (is_single a) (triple-punctuator a b c) (pair-punctuator a b) (single-punctuator a) some

@@ -3,20 +3,20 @@ use Rattle.std.proofs.Common.{ℕ, ◌<◌, ◌≤◌, List, [], ◌∷◌, leng
 use Rattle.std.specs.Prelude.{All}
 use Rattle.std.proofs.lemmas.List.Elements.{All-nil, All-cons}
 use Rattle.ck_base.specs.declared.tokens.Token.{Token}
-use Rattle.ck_lexer.specs.Cuts.{AreGaps}
+use Rattle.ck_lexer.specs.Cuts.{AreTrivia}
 use Rattle.ck_lexer.specs.Tokens.{AreTokens, AreTokensBetween, SpansRise}
-use Rattle.ck_lexer.specs.declared.pieces.Piece.TheVariants as PieceVariant
-use Rattle.ck_lexer.proofs.Sizes.{StandsAt-lies}
+use Rattle.ck_lexer.specs.declared.lexemes.Lexeme.TheVariants as LexemeVariant
+use Rattle.ck_lexer.proofs.Sizes.{IsLexeme-lies}
 
-gaps-rise : (bytes : List ℕ) (from to : ℕ) (ends : List ℕ) → AreGaps bytes from ends to → from ≤ to
-gaps-rise bytes from to [] here = omega arith
-gaps-rise bytes from to (end ∷ ends) gaps = omega (arith, (StandsAt-lies bytes from end PieceVariant.Gap gaps.0).rises, gaps-rise bytes end to ends gaps.1)
+trivia-rise : (bytes : List ℕ) (from to : ℕ) (ends : List ℕ) → AreTrivia bytes from ends to → from ≤ to
+trivia-rise bytes from to [] here = omega arith
+trivia-rise bytes from to (end ∷ ends) all_trivia = omega (arith, (IsLexeme-lies bytes from end LexemeVariant.Trivia all_trivia.0).rises, trivia-rise bytes end to ends all_trivia.1)
 
 between-rise : (file : ℕ) (bytes : List ℕ) (from to : ℕ) (ts : List Token) → AreTokensBetween file bytes from ts to → SpansRise from ts to
-between-rise file bytes from to [] gap = gaps-rise bytes from to gap.0 gap.1
+between-rise file bytes from to [] trivia = trivia-rise bytes from to trivia.0 trivia.1
 between-rise file bytes from to (t ∷ ts) cut = (
-  gaps-rise bytes from t.span.start cut.0.0 cut.0.1,
-  (StandsAt-lies bytes t.span.start t.span.end (PieceVariant.Token t.kind) cut.1.there).rises,
+  trivia-rise bytes from t.span.start cut.0.0 cut.0.1,
+  (IsLexeme-lies bytes t.span.start t.span.end (LexemeVariant.Token t.kind) cut.1.there).rises,
   between-rise file bytes t.span.end to ts cut.2,
 )
 

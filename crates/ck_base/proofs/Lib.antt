@@ -1,0 +1,2 @@
+-- The definitions at work
+mod Worked
