@@ -3,7 +3,7 @@
 -- `a + { b * c }` in a shown expression tells which operands `+` and `*` have.
 use Rattle.std.specs.Prelude.{◌≡◌, ℕ, ◌+◌, suc, Bool, true, false, ◌||◌, List, [], ◌∷◌, length, Option, Some, None}
 use Rattle.std.specs.Prelude.{codes}
-use Rattle.std.specs.Prelude.{if◌then◌else◌}
+use Rattle.std.specs.Prelude.{if◌then◌else◌, is_some}
 use Rattle.ck_base.specs.Characters.{◌∈◌, ◌∈range◌}
 use Rattle.ck_base.specs.TokenText.{text_of}
 use Rattle.ck_base.specs.declared.tokens.Token.{Token}
@@ -175,3 +175,10 @@ States typedefs line shown =
 abbrev pub Files : String → String → Type 0
 Files line shown =
     (file_at (codes line) (tokens_of line) >>= λ xs. Some (filed (text_of (codes line)) xs)) ≡ Some (words shown)
+
+-- the text is read as a file, or as none
+abbrev pub Accepts : String → Type 0
+Accepts line = is_some (file_at (codes line) (tokens_of line)) ≡ true
+
+abbrev pub Refuses : String → Type 0
+Refuses line = file_at (codes line) (tokens_of line) ≡ None

@@ -48,5 +48,6 @@ pub mod Appended
 pub mod Grouping
 mod WorkedOperators
 mod WorkedStatements
+mod WorkedTypes
 pub mod Worked
 mod WorkedDepth

@@ -26,15 +26,18 @@ pub literal-first : (b : ℕ) (text : List ℕ) → is_literal (b ∷ text) ≡ 
 literal-first b text h = here (or-either (is_quoted quote (b ∷ text)) (is_quoted double_quote (b ∷ text)) h) where
   here : (is_quoted quote (b ∷ text) ≡ true) ⊎ (is_quoted double_quote (b ∷ text) ≡ true) → is_quote b ≡ true
   here (inl x) = let e : b ≡ quote = eqb-same b quote (and-left (b == quote) (is_closed quote text) x) in rw e refl
-  here (inr x) = let e : b ≡ double_quote = eqb-same b double_quote (and-left (b == double_quote) (is_closed double_quote text) x) in rw e refl
+  here (inr x) = let e : b ≡ double_quote = eqb-same b double_quote
+      (and-left (b == double_quote) (is_closed double_quote text) x) in rw e refl
 
 -- a text that is none of the four is no token
-pub no_token : (text : List ℕ) → (is_identifier text ≡ true → ⊥) → (is_number text ≡ true → ⊥) → (is_literal text ≡ true → ⊥) → (is_punctuator text ≡ true → ⊥) → is_preprocessing_token text ≡ false
+pub no_token : (text : List ℕ) → (is_identifier text ≡ true → ⊥) → (is_number text ≡ true → ⊥)
+    → (is_literal text ≡ true → ⊥) → (is_punctuator text ≡ true → ⊥) → is_preprocessing_token text ≡ false
 unfolding is_preprocessing_token
 no_token text i n l p =
     or-none (is_identifier text || is_number text || is_literal text) (is_punctuator text)
     (or-none (is_identifier text || is_number text) (is_literal text)
-    (or-none (is_identifier text) (is_number text) (no-test (is_identifier text) i) (no-test (is_number text) n)) (no-test (is_literal text) l))
+    (or-none (is_identifier text) (is_number text) (no-test (is_identifier text) i) (no-test (is_number text) n))
+    (no-test (is_literal text) l))
     (no-test (is_punctuator text) p)
 
 -- the classes of first bytes exclude each other

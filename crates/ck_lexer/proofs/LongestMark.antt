@@ -20,7 +20,8 @@ as_token_mark : (text : List ℕ) → is_punctuator text ≡ true → is_preproc
 unfolding is_preprocessing_token
 as_token_mark text h = or-right (is_identifier text || is_number text || is_literal text) (is_punctuator text) h
 
-only_mark : (b : ℕ) (text : List ℕ) (m : ℕ) → BeginsMark b text → (is_punctuator (b ∷ take m text) ≡ true → ⊥) → is_preprocessing_token (b ∷ take m text) ≡ false
+only_mark : (b : ℕ) (text : List ℕ) (m : ℕ) → BeginsMark b text → (is_punctuator (b ∷ take m text) ≡ true → ⊥)
+    → is_preprocessing_token (b ∷ take m text) ≡ false
 only_mark b text m begins none =
     no_token (b ∷ take m text)
     (λ i. let e = identifier-first b (take m text) i in let f = begins.no_word in absurd (cc))
@@ -28,17 +29,21 @@ only_mark b text m begins none =
     (λ l. let e = literal-first b (take m text) l in let f = begins.no_quote in absurd (cc))
     none
 
-pub longest-mark : (b : ℕ) (text : List ℕ) → BeginsMark b text → 0 < punctuator_size (b ∷ text) → IsLongestToken (b ∷ text) (punctuator_size (b ∷ text))
+pub longest-mark : (b : ℕ) (text : List ℕ) → BeginsMark b text → 0 < punctuator_size (b ∷ text)
+    → IsLongestToken (b ∷ text) (punctuator_size (b ∷ text))
 longest-mark b text begins some = record {
   within = mark-fits (b ∷ text);
   token = as_token_mark (take (punctuator_size (b ∷ text)) (b ∷ text)) (mark-punctuator (b ∷ text) some);
   longest = longer;
 } where
-  longer : (m : ℕ) → punctuator_size (b ∷ text) < m → m ≤ length (b ∷ text) → is_preprocessing_token (take m (b ∷ text)) ≡ false
+  longer : (m : ℕ) → punctuator_size (b ∷ text) < m → m ≤ length (b ∷ text)
+      → is_preprocessing_token (take m (b ∷ text)) ≡ false
   longer zero more fits = absurd (omega arith)
-  longer (suc m) more fits = only_mark b text m begins (λ p. let le = punctuator-le (b ∷ text) (suc m) p fits in absurd (omega arith))
+  longer (suc m) more fits = only_mark b text m begins (λ p. let le = punctuator-le (b ∷ text) (suc m) p fits in
+      absurd (omega arith))
 
 pub no_mark : (b : ℕ) (text : List ℕ) → BeginsMark b text → punctuator_size (b ∷ text) ≡ 0 → BeginsNoToken (b ∷ text)
 unfolding is_preprocessing_token is_punctuator
 no_mark b text begins none zero fits = refl
-no_mark b text begins none (suc m) fits = only_mark b text m begins (λ p. let le = punctuator-le (b ∷ text) (suc m) p fits in absurd (omega arith))
+no_mark b text begins none (suc m) fits = only_mark b text m begins
+    (λ p. let le = punctuator-le (b ∷ text) (suc m) p fits in absurd (omega arith))

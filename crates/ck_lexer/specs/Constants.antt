@@ -110,14 +110,16 @@ octal_size text = min 3 (prefix_len is_octal_digit text)
 abbrev pub hexadecimal_escape : List ℕ → Option ℕ
 hexadecimal_escape digits =
     if prefix_len is_hexadecimal_digit digits == 0 then None
-    else if_byte (value_of 16 (take (prefix_len is_hexadecimal_digit digits) digits)) (1 + prefix_len is_hexadecimal_digit digits)
+    else if_byte (value_of 16 (take (prefix_len is_hexadecimal_digit digits) digits))
+    (1 + prefix_len is_hexadecimal_digit digits)
 
 -- how many bytes an escape takes after its backslash, where it has a value up to 255: a simple one takes one, an octal
 -- one up to three digits, and a hexadecimal one the x and all its digits
 abbrev pub escape_size : List ℕ → Option ℕ
 escape_size text =
     if is_simple_escape (slice_index text 0) then Some 1
-    else if is_octal_digit (slice_index text 0) then if_byte (value_of 8 (take (octal_size text) text)) (octal_size text)
+    else if is_octal_digit (slice_index text 0) then if_byte (value_of 8 (take (octal_size text) text))
+    (octal_size text)
     else if slice_index text 0 ∈ "x" then hexadecimal_escape (drop 1 text)
     else None
 

@@ -12,11 +12,13 @@ use Rattle.ck_lexer.specs.declared.lexemes.Lexeme.{Lexeme}
 -- at an offset of a file there is at most one lexeme
 abbrev pub OffsetsHaveOneLexeme : Type 0
 OffsetsHaveOneLexeme =
-    (bytes : List ℕ) (start e f : ℕ) (p q : Lexeme) → IsLexeme bytes start e p → IsLexeme bytes start f q → (e ≡ f) × (p ≡ q)
+    (bytes : List ℕ) (start e f : ℕ) (p q : Lexeme) → IsLexeme bytes start e p → IsLexeme bytes start f q
+    → (e ≡ f) × (p ≡ q)
 
 -- no file has two lists of tokens
 abbrev pub FilesHaveOneList : Type 0
-FilesHaveOneList = (file : ℕ) (bytes : List ℕ) (ts us : List Token) → AreTokens file bytes ts → AreTokens file bytes us → ts ≡ us
+FilesHaveOneList = (file : ℕ) (bytes : List ℕ) (ts us : List Token) → AreTokens file bytes ts
+    → AreTokens file bytes us → ts ≡ us
 
 -- the spans of a file's tokens rise within the file
 abbrev pub TokensRise : Type 0
@@ -25,15 +27,18 @@ TokensRise = (file : ℕ) (bytes : List ℕ) (ts : List Token) → AreTokens fil
 -- no file has tokens and a first fault
 abbrev pub ListsExcludeFaults : Type 0
 ListsExcludeFaults =
-    (file : ℕ) (bytes : List ℕ) (ts : List Token) (r : Refusal) → AreTokens file bytes ts → IsFirstFault file bytes r → ⊥
+    (file : ℕ) (bytes : List ℕ) (ts : List Token) (r : Refusal) → AreTokens file bytes ts → IsFirstFault file bytes r
+    → ⊥
 
 -- no file has two first faults
 abbrev pub FilesHaveOneFault : Type 0
-FilesHaveOneFault = (file : ℕ) (bytes : List ℕ) (r s : Refusal) → IsFirstFault file bytes r → IsFirstFault file bytes s → r ≡ s
+FilesHaveOneFault = (file : ℕ) (bytes : List ℕ) (r s : Refusal) → IsFirstFault file bytes r
+    → IsFirstFault file bytes s → r ≡ s
 
 -- no line is a marker of two numbers or of two names
 abbrev pub LinesHaveOneMarker : Type 0
-LinesHaveOneMarker = (line : List ℕ) (m n : ℕ) (a b : List ℕ) → IsMarker line m a → IsMarker line n b → (m ≡ n) × (a ≡ b)
+LinesHaveOneMarker = (line : List ℕ) (m n : ℕ) (a b : List ℕ) → IsMarker line m a → IsMarker line n b
+    → (m ≡ n) × (a ≡ b)
 
 -- no offset has two places
 abbrev pub OffsetsHaveOnePlace : Type 0

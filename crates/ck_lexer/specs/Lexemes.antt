@@ -56,7 +56,8 @@ pub record IsLongestToken (rest : List ℕ) (size : ℕ) : Type 0 where
 -- a token; a literal without its closing quote, which is passed over up to its line's end; or another byte
 pub data IsTokenOrFault (rest : List ℕ) : ℕ → Lexeme → Type 0 where
   token : (size : ℕ) → IsLongestToken rest size → IsTokenOrFault rest size (lexeme_of (take size rest))
-  unclosed : BeginsNoToken rest → is_quote (slice_index rest 0) ≡ true → IsTokenOrFault rest (prefix_len is_no_line_feed rest) (Fault U2)
+  unclosed : BeginsNoToken rest → is_quote (slice_index rest 0) ≡ true
+      → IsTokenOrFault rest (prefix_len is_no_line_feed rest) (Fault U2)
   bad : BeginsNoToken rest → is_quote (slice_index rest 0) ≡ false → IsTokenOrFault rest 1 (Fault U1)
 
 -- `*/` is at this offset
@@ -73,7 +74,8 @@ pub data IsComment (rest : List ℕ) : ℕ → Lexeme → Type 0 where
 pub data IsDirective (line : List ℕ) : Lexeme → Type 0 where
   pragma : is_pragma line ≡ true → IsDirective line Trivia
   marker : (number : ℕ) (name : List ℕ) → IsMarker line number name → IsDirective line Trivia
-  bad : is_pragma line ≡ false → ((number : ℕ) (name : List ℕ) → IsMarker line number name → ⊥) → IsDirective line (Fault U6)
+  bad : is_pragma line ≡ false → ((number : ℕ) (name : List ℕ) → IsMarker line number name → ⊥)
+      → IsDirective line (Fault U6)
 
 -- how a lexeme begins: with white space, with `/*`, with `//`, with the `#` of a line of its own, or otherwise
 pub data Beginning : Type 0 where

@@ -44,7 +44,8 @@ abbrev pub StartsBy : ℕ → Line → Type 0
 StartsBy at line = line.start ≤ at
 
 -- the lines of a file up to an offset, and the line that the offset is on
-pub record AreLines (name bytes : List ℕ) (names : List (List ℕ)) (lines : List Line) (on : Line) (at : ℕ) : Type 0 where
+pub record AreLines (name bytes : List ℕ) (names : List (List ℕ)) (lines : List Line) (on : Line)
+    (at : ℕ) : Type 0 where
   pub within : at ≤ length bytes
   pub all : All (IsLineOf name bytes names) lines
   pub order : IsNonDecreasingBy start_of lines

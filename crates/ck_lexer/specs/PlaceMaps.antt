@@ -38,7 +38,8 @@ place_on names line offset = record { name = name_on names line; line = line.num
 -- a line of a file: from its start up to its line feed, or the file's end, each offset has its name and its number
 pub record IsLineOf (name bytes : List ℕ) (names : List (List ℕ)) (line : Line) : Type 0 where
   pub known : line.name < length names
-  pub places : (offset : ℕ) → line.start ≤ offset → offset ≤ length bytes → NoFeeds bytes line.start offset → IsPlace name bytes offset (place_on names line offset)
+  pub places : (offset : ℕ) → line.start ≤ offset → offset ≤ length bytes → NoFeeds bytes line.start offset
+      → IsPlace name bytes offset (place_on names line offset)
 
 abbrev pub StartsAt : ℕ → Line → Type 0
 StartsAt at line = line.start ≡ at

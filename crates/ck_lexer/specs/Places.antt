@@ -44,4 +44,9 @@ pub data IsPlace (name bytes : List ℕ) (offset : ℕ) : Place → Type 0 where
   of_marker : (m : Marker) → IsMarkerOf bytes m → m.end < offset
       → ((n : Marker) → IsMarkerOf bytes n → n.end < offset → n.end ≤ m.end)
       → IsPlace name bytes offset
-      (record { name = m.name; line = m.number + line_feeds (slice_range bytes (m.end + 1) offset); column = column_at bytes offset })
+      (record {
+        name = m.name;
+        line = m.number + line_feeds (slice_range bytes
+            (m.end + 1) offset);
+        column = column_at bytes offset;
+      })

@@ -31,7 +31,9 @@ fn note(
 ) -> Result<Option<Refusal>, OutOfMemory>
     requires some { 0 < scanned.size }
     requires within { at + scanned.size ≤ most_bytes }
-    ensures { IfOk result (λ next. (bytes : List ℕ) → IsLexeme bytes at (at + scanned.size) scanned.lexeme → IsReadTo file bytes tokens.old.items fault at → IsReadTo file bytes tokens.new.items next (at + scanned.size)) }
+    ensures { IfOk result (λ next. (bytes : List ℕ) → IsLexeme bytes at (at + scanned.size) scanned.lexeme
+        → IsReadTo file bytes tokens.old.items fault at → IsReadTo file bytes tokens.new.items next
+        (at + scanned.size)) }
 {
     match fault {
         Some(first) => Ok(Some(first)),
@@ -54,9 +56,12 @@ fn note(
 pub fn scan(alloc: Global, file: u32, name: &str, bytes: &[u8]) -> Result<FileScan, OutOfMemory>
     requires { length bytes.now ≤ most_bytes }
     ensures places { IfOk result (λ scan. IsPlaceMapOf name.now bytes.now scan.places) }
-    ensures tokens { IfOk result (λ scan. MatchResult scan.tokens (λ tokens. AreTokens file bytes.now tokens.items) (IsFirstFault file bytes.now)) }
-    ensures only_tokens { IfOk result (λ scan. (tokens : List FileToken) → AreTokens file bytes.now tokens → IsOkAnd scan.tokens (λ v. v.items ≡ tokens)) }
-    ensures only_fault { IfOk result (λ scan. (refusal : FileRefusal) → IsFirstFault file bytes.now refusal → scan.tokens ≡ Err refusal) }
+    ensures tokens { IfOk result (λ scan. MatchResult scan.tokens (λ tokens. AreTokens file bytes.now tokens.items)
+        (IsFirstFault file bytes.now)) }
+    ensures only_tokens { IfOk result (λ scan. (tokens : List FileToken) → AreTokens file bytes.now tokens
+        → IsOkAnd scan.tokens (λ v. v.items ≡ tokens)) }
+    ensures only_fault { IfOk result (λ scan. (refusal : FileRefusal) → IsFirstFault file bytes.now refusal
+        → scan.tokens ≡ Err refusal) }
 {
     let mut tokens = Vec::new(alloc);
     let mut fault = None;

@@ -1,5 +1,6 @@
 //! The tokens of a file, or its first fault.
-ghost use Rattle.std.specs.Prelude.{◌≡◌, ◌+◌, ◌<◌, ◌≤◌, ◌⊎◌, ◌↔◌, ◌++◌, ◌∷◌, [], List, length, IfOk, IfErr, IsNone, IsOkAnd, OnOk};
+ghost use Rattle.std.specs.Prelude.{◌≡◌, ◌+◌, ◌<◌, ◌≤◌, ◌⊎◌, ◌↔◌, ◌++◌, ◌∷◌};
+ghost use Rattle.std.specs.Prelude.{[], List, length, IfOk, IfErr, IsNone, IsOkAnd, OnOk};
 ghost use Rattle.ck_base.specs.declared.refusals.Refusal.{Refusal};
 ghost use Rattle.ck_base.specs.declared.tokens.Token.{Token as FileToken};
 ghost use Rattle.ck_lexer.specs.Bytes.{most_bytes};
@@ -49,7 +50,11 @@ fn marked_size(kind: Unsupported, size: usize) -> usize
 pub(crate) fn refusal(file: u32, kind: Unsupported, start: usize, size: usize) -> Refusal
     requires within { start + size ≤ most_bytes }
     requires some { 0 < size }
-    ensures { result ≡ record { kind = kind; at = Spot.At (record { file = file; start = start; end = start + lexeme.marked_size kind size }) } }
+    ensures { result ≡ record {
+      kind = kind;
+      at = Spot.At (record
+          { file = file; start = start; end = start + lexeme.marked_size kind size });
+    } }
 {
     let end = start + marked_size(kind, size);
     Refusal {
@@ -71,9 +76,12 @@ pub(crate) fn refusal(file: u32, kind: Unsupported, start: usize, size: usize) -
 pub fn lex(alloc: Global, file: u32, bytes: &[u8]) -> Result<Vec<Token>, Fault>
     requires { length bytes.now ≤ most_bytes }
     ensures tokens { IfOk result (λ tokens. AreTokens file bytes.now tokens.items) }
-    ensures fault { (refusal : Refusal) → result ≡ Err (Fault.Unsupported refusal) → IsFirstFault file bytes.now refusal }
-    ensures only_tokens { (tokens : List FileToken) → AreTokens file bytes.now tokens → (result ≡ Err Fault.Memory) ⊎ IsOkAnd result (λ v. v.items ≡ tokens) }
-    ensures only_fault { (refusal : Refusal) → IsFirstFault file bytes.now refusal → (result ≡ Err Fault.Memory) ⊎ (result ≡ Err (Fault.Unsupported refusal)) }
+    ensures fault { (refusal : Refusal) → result ≡ Err (Fault.Unsupported refusal)
+        → IsFirstFault file bytes.now refusal }
+    ensures only_tokens { (tokens : List FileToken) → AreTokens file bytes.now tokens
+        → (result ≡ Err Fault.Memory) ⊎ IsOkAnd result (λ v. v.items ≡ tokens) }
+    ensures only_fault { (refusal : Refusal) → IsFirstFault file bytes.now refusal
+        → (result ≡ Err Fault.Memory) ⊎ (result ≡ Err (Fault.Unsupported refusal)) }
 {
     let mut tokens = Vec::new(alloc);
     let mut at = 0;

@@ -53,7 +53,8 @@ fn are_flags(text: &[u8]) -> bool
 fn with_closed_name(number: u32, text: &[u8], closing: usize) -> Option<Marked<'_>>
     requires some { 0 < closing }
     requires within { closing ≤ length text.now }
-    ensures { option_map scan.marked_parts result ≡ scan.marker_flags number (take (closing - 1) text.now) (drop closing text.now) }
+    ensures { option_map scan.marked_parts result ≡ scan.marker_flags number (take (closing - 1) text.now)
+        (drop closing text.now) }
 {
     if are_flags(&text[closing..]) {
         let name = &text[..closing - 1];

@@ -85,7 +85,8 @@ impl Base {
 
 /// A value with one more digit at its end, where it is less than 2^64.
 fn with_digit(value: u64, base: Base, byte: u8) -> Option<u64>
-    ensures { SomeIff result (value * spec.number_of base + spec.digit_value byte < 2 ^ 64) (value * spec.number_of base + spec.digit_value byte) }
+    ensures { SomeIff result (value * spec.number_of base + spec.digit_value byte < 2 ^ 64)
+        (value * spec.number_of base + spec.digit_value byte) }
 {
     match value.checked_mul(base.number()) {
         Some(product) => product.checked_add(digit_value(byte)),
@@ -95,7 +96,8 @@ fn with_digit(value: u64, base: Base, byte: u8) -> Option<u64>
 
 /// The value of these digits, where it is less than 2^64.
 pub(crate) fn value_of(base: Base, digits: &[u8]) -> Option<u64>
-    ensures { SomeIff result (spec.value_of (spec.number_of base) digits.now < 2 ^ 64) (spec.value_of (spec.number_of base) digits.now) }
+    ensures { SomeIff result (spec.value_of (spec.number_of base) digits.now < 2 ^ 64)
+        (spec.value_of (spec.number_of base) digits.now) }
 {
     let mut value = 0;
     for digit in digits {
@@ -178,7 +180,8 @@ fn has_type(base: Base, value: u64, suffix: &[u8]) -> bool
 
 /// Whether these digits with this suffix are a constant of a type that exists within 64 bits.
 fn is_integer_of(base: Base, digits: &[u8], suffix: &[u8]) -> bool
-    ensures { result ≡ (nat_lt 0 (length digits.now) && spec.is_suffix suffix.now && nat_lt (spec.value_of (spec.number_of base) digits.now) (spec.value_limit base suffix.now)) }
+    ensures { result ≡ (nat_lt 0 (length digits.now) && spec.is_suffix suffix.now && nat_lt
+        (spec.value_of (spec.number_of base) digits.now) (spec.value_limit base suffix.now)) }
 {
     if digits.is_empty() || !(is_unsigned_suffix(suffix) || is_signed_suffix(suffix)) {
         return false;

@@ -1,9 +1,11 @@
 //! Names, lines and columns of a file's bytes (docs/TOKENS.md, "Places").
-ghost use Rattle.std.specs.Prelude.{◌≡◌, ◌≤◌, ◌<◌, ◌++◌, ◌∷◌, ℕ, [], List, length, slice_index_or, IfOk, OnOk, MatchOption};
+ghost use Rattle.std.specs.Prelude.{◌≡◌, ◌≤◌, ◌<◌, ◌++◌, ◌∷◌, ℕ};
+ghost use Rattle.std.specs.Prelude.{[], List, length, slice_index_or, IfOk, OnOk, MatchOption};
 ghost use Rattle.std.specs.List.Sorted.{IsNonDecreasingBy};
 ghost use Rattle.ck_lexer.specs.Bytes.{most_bytes};
 ghost use Rattle.ck_lexer.specs.Cuts.{IsLexeme};
-ghost use Rattle.ck_lexer.specs.Mapping.{GoesOn, IsAtOrAfterFeed, IsLastBefore, IsMapped, IsMarked, IsNumbered, IsUnmarked};
+ghost use Rattle.ck_lexer.specs.Mapping.{GoesOn, IsAtOrAfterFeed, IsLastBefore};
+ghost use Rattle.ck_lexer.specs.Mapping.{IsMapped, IsMarked, IsNumbered, IsUnmarked};
 ghost use Rattle.ck_lexer.specs.PlaceMaps.{HasStart, IsPlaceMapOf, names_of, place_of, start_of};
 ghost use Rattle.ck_lexer.specs.Places.{IsPlace};
 ghost use Rattle.ck_lexer.specs.Scanning as scan;
@@ -139,8 +141,10 @@ fn pass_line_ends(
     requires begun { on.start ≤ at }
     requires numbered { IsNumbered on }
     ensures rises { IfOk result (λ next. end ≤ next.at) }
-    ensures lines { IfOk result (λ next. (name : List ℕ) (lexeme : Lexeme) → IsLexeme bytes.now at end lexeme → IsMapped name bytes.now map.old on at → IsMapped name bytes.now map.new next.on next.at) }
-    ensures feed { IfOk result (λ next. (lexeme : Lexeme) → IsLexeme bytes.now at end lexeme → IsAtOrAfterFeed bytes.now end next.at) }
+    ensures lines { IfOk result (λ next. (name : List ℕ) (lexeme : Lexeme) → IsLexeme bytes.now at end lexeme
+        → IsMapped name bytes.now map.old on at → IsMapped name bytes.now map.new next.on next.at) }
+    ensures feed { IfOk result (λ next. (lexeme : Lexeme) → IsLexeme bytes.now at end lexeme
+        → IsAtOrAfterFeed bytes.now end next.at) }
 {
     match marked_line(bytes, at, end) {
         Some(marked) => {
@@ -185,8 +189,10 @@ pub(crate) fn pass(
     requires begun { on.start ≤ at }
     requires numbered { IsNumbered on }
     ensures rises { IfOk result (λ next. end ≤ next.at) }
-    ensures lines { IfOk result (λ next. (name : List ℕ) (lexeme : Lexeme) → IsLexeme bytes.now at end lexeme → IsMapped name bytes.now map.old on at → IsMapped name bytes.now map.new next.on next.at) }
-    ensures feed { IfOk result (λ next. (lexeme : Lexeme) → IsLexeme bytes.now at end lexeme → IsAtOrAfterFeed bytes.now end next.at) }
+    ensures lines { IfOk result (λ next. (name : List ℕ) (lexeme : Lexeme) → IsLexeme bytes.now at end lexeme
+        → IsMapped name bytes.now map.old on at → IsMapped name bytes.now map.new next.on next.at) }
+    ensures feed { IfOk result (λ next. (lexeme : Lexeme) → IsLexeme bytes.now at end lexeme
+        → IsAtOrAfterFeed bytes.now end next.at) }
 {
     if may_end_line(bytes[at]) {
         pass_line_ends(alloc, map, on, bytes, at, end)
@@ -243,7 +249,8 @@ fn name_at(names: &[Vec<u8>], index: usize) -> &[u8]
 /// At the file's end the offset is the file's length. A greater one has the place that the last line would
 /// give it.
 pub fn place(map: &PlaceMap, offset: u32) -> PlaceName<'_>
-    ensures { (name bytes : List ℕ) → IsPlaceMapOf name bytes map.now → offset ≤ length bytes → IsPlace name bytes offset (place_of result) }
+    ensures { (name bytes : List ℕ) → IsPlaceMapOf name bytes map.now → offset ≤ length bytes
+        → IsPlace name bytes offset (place_of result) }
 {
     let line = last_before(&map.lines, offset);
     PlaceName {

@@ -11,22 +11,26 @@ loop-at-preserved c =
     let is = c.lexeme_at-scanned.ensures.found in
     record {
       mapped = c.in_ok-next.ensures.lines c.args.name.now scanned.lexeme is c.loop-at.invariant.mapped;
-      read = read-feed c.args.file c.args.bytes.now c.note.new.tokens.items c.in_ok-fault.fault (c.loop-at.at + scanned.size) c.in_ok-next.next.at
-          (c.in_ok-fault.ensures c.args.bytes.now is c.loop-at.invariant.read) (c.in_ok-next.ensures.feed scanned.lexeme is);
+      read = read-feed c.args.file c.args.bytes.now c.note.new.tokens.items c.in_ok-fault.fault
+          (c.loop-at.at + scanned.size) c.in_ok-next.next.at
+          (c.in_ok-fault.ensures c.args.bytes.now is c.loop-at.invariant.read)
+          (c.in_ok-next.ensures.feed scanned.lexeme is);
     }
 
 pub returns-in-None-clause-only_tokens : goal.returns-in-None-clause-only_tokens
 returns-in-None-clause-only_tokens c = λ tokens are.
     let l = c.loop-at in
     let P : Option Refusal → Type 0 = λ f. IsReadTo c.args.file c.args.bytes.now l.tokens.items f l.at in
-    let ended = tokens-end c.args.file c.args.bytes.now l.at l.tokens.items (subst P c.in-None.is l.invariant.read) l.invariant.mapped.found.within c.loop-at-test.false in
+    let ended = tokens-end c.args.file c.args.bytes.now l.at l.tokens.items
+    (subst P c.in-None.is l.invariant.read) l.invariant.mapped.found.within c.loop-at-test.false in
     one_list c.args.file c.args.bytes.now l.tokens.items tokens ended are
 
 pub returns-in-None-clause-only_fault : goal.returns-in-None-clause-only_fault
 returns-in-None-clause-only_fault c = λ refusal is.
     let l = c.loop-at in
     let P : Option Refusal → Type 0 = λ f. IsReadTo c.args.file c.args.bytes.now l.tokens.items f l.at in
-    let ended = tokens-end c.args.file c.args.bytes.now l.at l.tokens.items (subst P c.in-None.is l.invariant.read) l.invariant.mapped.found.within c.loop-at-test.false in
+    let ended = tokens-end c.args.file c.args.bytes.now l.at l.tokens.items
+    (subst P c.in-None.is l.invariant.read) l.invariant.mapped.found.within c.loop-at-test.false in
     absurd (tokens_or_fault c.args.file c.args.bytes.now l.tokens.items refusal ended is)
 
 pub returns-in-Some-clause-only_tokens : goal.returns-in-Some-clause-only_tokens
@@ -39,5 +43,6 @@ pub returns-in-Some-clause-only_fault : goal.returns-in-Some-clause-only_fault
 returns-in-Some-clause-only_fault c = λ refusal is.
     let l = c.loop-at in
     let P : Option Refusal → Type 0 = λ f. IsReadTo c.args.file c.args.bytes.now l.tokens.items f l.at in
-    let e : c.in-Some.refusal ≡ refusal = one_fault c.args.file c.args.bytes.now c.in-Some.refusal refusal (subst P c.in-Some.is l.invariant.read) is in
+    let e : c.in-Some.refusal ≡ refusal = one_fault c.args.file c.args.bytes.now c.in-Some.refusal refusal
+    (subst P c.in-Some.is l.invariant.read) is in
     rw e refl

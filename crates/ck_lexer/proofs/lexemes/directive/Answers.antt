@@ -15,4 +15,5 @@ returns-in-Some c =
 pub returns-in-None : goal.returns-in-None
 returns-in-None c =
     let none : None ≡ marker_of c.args.line.now = c.in-None.ensures in
-    bad (sym c.is_pragma.ensures ∙ c.if-is_pragma.false) (λ number name is. let e : marker_of c.args.line.now ≡ Some (number, name) = marker_of-complete c.args.line.now number name is in absurd (cc))
+    bad (sym c.is_pragma.ensures ∙ c.if-is_pragma.false) (λ number name is. let e : marker_of c.args.line.now ≡ Some
+    (number, name) = marker_of-complete c.args.line.now number name is in absurd (cc))

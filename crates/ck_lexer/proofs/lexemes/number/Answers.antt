@@ -8,7 +8,10 @@ number_length-size-requires c = number-some c.args.rest.now c.requires
 
 pub slice_bounds-number_lexeme-end : goal.slice_bounds-number_lexeme-end
 slice_bounds-number_lexeme-end c =
-    sym (length-take-le c.number_length-size.result c.args.rest.now (number-size c.args.rest.now c.number_length-size.result (number-some c.args.rest.now c.requires) c.number_length-size.ensures))
+    sym (length-take-le c.number_length-size.result c.args.rest.now
+    (number-size c.args.rest.now c.number_length-size.result
+    (number-some c.args.rest.now c.requires) c.number_length-size.ensures))
 
 pub returns : goal.returns
-returns c = IsTokenOrFault-number c.args.rest.now c.number_length-size.result c.number_lexeme-lexeme.result c.requires c.number_length-size.ensures c.number_lexeme-lexeme.ensures
+returns c = IsTokenOrFault-number c.args.rest.now c.number_length-size.result c.number_lexeme-lexeme.result c.requires
+    c.number_length-size.ensures c.number_lexeme-lexeme.ensures

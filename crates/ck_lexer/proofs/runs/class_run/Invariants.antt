@@ -7,7 +7,8 @@ abbrev pub invariant-wide : goal.invariant-wide
 invariant-wide l = record {
   begun : l.at ≤ l.end;
   within : l.end ≤ length l.bytes;
-  rest : l.at + prefix_len (is_in l.class) (drop l.at l.bytes) ≡ l.end + prefix_len (is_in l.class) (drop l.end l.bytes);
+  rest : l.at + prefix_len (is_in l.class) (drop l.at l.bytes) ≡ l.end + prefix_len (is_in l.class)
+      (drop l.end l.bytes);
 }
 
 abbrev pub decreases-wide : goal.decreases-wide
