@@ -6,3 +6,5 @@ pub mod Joined
 pub mod ValidSettings
 pub mod Toml
 pub mod Worked
+pub mod Tables
+pub mod VersionTwo

@@ -6,3 +6,4 @@ pub mod Documents
 pub mod Valid
 pub mod Places
 pub mod Reading
+pub mod Upgrading

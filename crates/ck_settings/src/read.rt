@@ -57,7 +57,7 @@ fn settings_of_file(alloc: Global, bytes: &[u8]) -> Result<Settings, ReadSetting
 /// for keys that are left out. Else it is the first fault, with its key: NotToml, or of the document
 /// Missing, Unknown, WrongType, OutOfRange or Repeated. `Memory` says that memory ran out.
 ///
-/// The settings are valid: version 1, a timer priority from the kernel's priority on, at most 240
+/// The settings are valid: version 1 or 2, a timer priority from the kernel's priority on, at most 240
 /// vectors and callbacks together, and no element of a list that repeats one before it.
 pub fn read_settings(alloc: Global, bytes: &[u8]) -> Result<Settings, ReadSettingsError>
     ensures reads { Gives settings_view result (settings_of bytes.now) }
