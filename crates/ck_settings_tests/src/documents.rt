@@ -1,6 +1,6 @@
 //! Settings documents without a fault, and what they are read as.
 use ck_base::Op::{self, Free, IQuiet, IWakes, Neutral, Normal, SPlain, SWakes};
-use ck_settings::{Settings, read_settings};
+use ck_settings::{Settings, read_settings, upgraded};
 use std::alloc::Global;
 use std::test::Fail;
 
@@ -163,8 +163,8 @@ pub fn has_functions(settings: &Settings, rows: &[(&str, Op)]) -> bool {
 }
 
 /// Whether a text is read as this and no more: the numbers, and the lists of a document.
-fn is_read_as(alloc: Global, text: &str, numbers: (u8, u8, u8), lists: &Document) -> bool {
-    match read_settings(alloc, text.as_bytes()) {
+fn is_read_as(alloc: Global, text: &[u8], numbers: (u8, u8, u8), lists: &Document) -> bool {
+    match read_settings(alloc, text) {
         Ok(settings) => {
             has_numbers(&settings, numbers)
                 && has_vectors(&settings, lists.vectors)
@@ -187,17 +187,33 @@ const EMPTY: Document = Document {
 #[test]
 fn priorities_and_their_default(rt: HostRuntime) {
     for (text, kernel, timer) in PRIORITIES {
-        let right = is_read_as(rt.alloc(), text, (1, kernel, timer), &EMPTY);
+        let right = is_read_as(rt.alloc(), text.as_bytes(), (1, kernel, timer), &EMPTY);
         assert!(rt; right, "at {text}");
     }
 }
 
+/// Whether the settings of a document, written as one of version 2, are read as they were.
+fn is_upgraded(alloc: Global, document: &Document) -> Result<bool, Fail> {
+    let (_, kernel, timer) = document.numbers;
+    match read_settings(alloc, document.text.as_bytes()) {
+        Ok(settings) => {
+            let text = upgraded(alloc, &settings)?;
+            Ok(is_read_as(alloc, &text, (2, kernel, timer), document))
+        }
+        Err(_) => Ok(false),
+    }
+}
+
+/// As they are, and written as documents of version 2.
 #[test]
-fn whole_documents(rt: HostRuntime) {
+fn whole_documents(rt: HostRuntime) -> Result<(), Fail> {
     for document in [WHOLE, EXAMPLE, SECOND_VERSION] {
-        let right = is_read_as(rt.alloc(), document.text, document.numbers, &document);
+        let text = document.text.as_bytes();
+        let right = is_read_as(rt.alloc(), text, document.numbers, &document)
+            && is_upgraded(rt.alloc(), &document)?;
         assert!(rt; right, "at {}", document.text);
     }
+    Ok(())
 }
 
 /// A class, what is written after it, and the op.
