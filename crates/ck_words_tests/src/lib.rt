@@ -13,6 +13,8 @@ mod places;
 #[cfg(test)]
 mod refusals;
 #[cfg(test)]
+mod runs;
+#[cfg(test)]
 mod states;
 #[cfg(test)]
 mod tokens;

@@ -1,6 +1,6 @@
 //! Texts with an offset and its place, worked out by hand from docs/TOKENS.md.
 use ck_base::OutOfMemory;
-use ck_lexer::{place, place_map};
+use ck_lexer::{PlaceMap, place, place_map, scan};
 use std::alloc::Global;
 use std::test::Fail;
 
@@ -34,7 +34,14 @@ const PLACES: [(&[u8], u32, &[u8], u32, u32); 18] = [
     (b"//*\n#5\"c\"\nz", 10, b"c", 5, 1),
 ];
 
-/// Whether a text, no larger than a file may be, has an offset at a place.
+/// Whether a map has an offset at a place.
+fn has_place(map: &PlaceMap, offset: u32, name: &[u8], line: u32, column: u32) -> bool {
+    let found = place(map, offset);
+    found.name == name && found.line == line && found.column == column
+}
+
+/// Whether a text, no larger than a file may be, has an offset at a place, by each call that makes a
+/// map.
 pub fn is_place(
     alloc: Global,
     text: &[u8],
@@ -46,9 +53,9 @@ pub fn is_place(
     if text.len() > 1_048_576 {
         return Ok(false);
     }
-    let map = place_map(alloc, "own", text)?;
-    let found = place(&map, offset);
-    Ok(found.name == name && found.line == line && found.column == column)
+    let alone = has_place(&place_map(alloc, "own", text)?, offset, name, line, column);
+    let scanned = scan(alloc, 0, "own", text)?;
+    Ok(alone && has_place(&scanned.places, offset, name, line, column))
 }
 
 #[test]

@@ -1,6 +1,6 @@
 //! Texts with their tokens or their first fault, worked out by hand from C99 6.4 and docs/TOKENS.md.
 use ck_base::{Fault, Refusal, Span, Spot, Token, TokenKind, number};
-use ck_lexer::lex;
+use ck_lexer::{first_fault, lex, scan};
 use std::alloc::Global;
 
 /// The greatest size of a file, in bytes.
@@ -148,6 +148,22 @@ fn tokens_of(alloc: Global, file: u32, text: &[u8]) -> Result<Vec<Token>, Fault>
     lex(alloc, file, text)
 }
 
+/// The same by the call that also gives the map of places.
+fn scanned(alloc: Global, file: u32, text: &[u8]) -> Result<Vec<Token>, Fault> {
+    if text.len() > GREATEST {
+        return Err(Fault::Memory);
+    }
+    Ok(scan(alloc, file, "own", text)?.tokens?)
+}
+
+/// A text's first fault, where it isn't larger than a file may be.
+fn first_fault_of(file: u32, text: &[u8]) -> Option<Refusal> {
+    if text.len() > GREATEST {
+        return None;
+    }
+    first_fault(file, text)
+}
+
 /// The letter of a token's kind.
 fn letter(kind: TokenKind) -> &'static [u8] {
     match kind {
@@ -176,9 +192,9 @@ fn after_entry<'a>(list: &'a [u8], text: &[u8], token: &Token) -> Option<&'a [u8
         .strip_prefix(b" ".as_slice())
 }
 
-/// Whether a text has just the tokens of a list.
-fn has_tokens(alloc: Global, text: &[u8], list: &[u8]) -> bool {
-    let Ok(tokens) = tokens_of(alloc, 3, text) else {
+/// Whether these are just the tokens of a list, of a text in file 3.
+fn are_listed(tokens: Result<Vec<Token>, Fault>, text: &[u8], list: &[u8]) -> bool {
+    let Ok(tokens) = tokens else {
         return false;
     };
     let mut rest = list;
@@ -191,6 +207,13 @@ fn has_tokens(alloc: Global, text: &[u8], list: &[u8]) -> bool {
     rest.is_empty()
 }
 
+/// Whether each call that cuts a text gives just the tokens of a list, and none a fault.
+fn has_tokens(alloc: Global, text: &[u8], list: &[u8]) -> bool {
+    are_listed(tokens_of(alloc, 3, text), text, list)
+        && are_listed(scanned(alloc, 3, text), text, list)
+        && first_fault_of(3, text).is_none()
+}
+
 #[test]
 fn tokens_of_texts(rt: HostRuntime) {
     for (text, list) in TOKENS {
@@ -198,31 +221,45 @@ fn tokens_of_texts(rt: HostRuntime) {
     }
 }
 
-/// The number and the span of a text's first fault, in file 4.
-fn first_fault(alloc: Global, text: &[u8]) -> Option<(u8, u32, u32)> {
-    match tokens_of(alloc, 4, text) {
-        Err(
-            Fault::Unsupported(
-                Refusal {
-                    kind,
-                    at: Spot::At(
-                        Span {
-                            file: 4,
-                            start,
-                            end,
-                        },
-                    ),
-                },
-            ),
-        ) => Some((number(&kind), start, end)),
+/// A refusal's number and span, in file 4.
+fn marked(refusal: &Refusal) -> Option<(u8, u32, u32)> {
+    match refusal.at {
+        Spot::At(
+            Span {
+                file: 4,
+                start,
+                end,
+            },
+        ) => Some((number(&refusal.kind), start, end)),
         _ => None,
     }
+}
+
+/// The number and the span of the fault in place of tokens.
+fn fault_of(tokens: Result<Vec<Token>, Fault>) -> Option<(u8, u32, u32)> {
+    match tokens {
+        Err(Fault::Unsupported(refusal)) => marked(&refusal),
+        _ => None,
+    }
+}
+
+/// Whether each call that cuts a text refuses it with this fault.
+fn has_fault(alloc: Global, text: &[u8], fault: (u8, u32, u32)) -> bool {
+    let found = match first_fault_of(4, text) {
+        Some(refusal) => marked(&refusal),
+        None => None,
+    };
+    found == Some(fault)
+        && fault_of(tokens_of(alloc, 4, text)) == Some(fault)
+        && fault_of(scanned(alloc, 4, text)) == Some(fault)
 }
 
 #[test]
 fn first_faults_of_texts(rt: HostRuntime) {
     for (text, fault, start, end) in FAULTS {
-        let found = first_fault(rt.alloc(), text);
-        assert_eq!(rt; found, Some((fault, start, end)), "at {text:?}");
+        assert!(rt;
+            has_fault(rt.alloc(), text, (fault, start, end)),
+            "at {text:?}"
+        );
     }
 }
