@@ -39,27 +39,20 @@ instructions() { # instructions WORD..: how many the program executes with these
   valgrind --tool=callgrind --callgrind-out-file="$dir/callgrind" "$program" "$@" 2> "$dir/counted" > "$dir/printed" || { cat "$dir/counted" >&2; exit 1; }
   awk '/Collected *:/ { print $NF }' "$dir/counted"
 }
-measure() { # measure SHAPE N ROUNDS: what `solve` costs on this graph
+measure() { # measure SHAPE N: what `solve` costs on this graph
   whole=$(instructions "$1" "$2" solve)
   before=$(instructions "$1" "$2" build)
   points=$(sed -n 's/^points //p' "$dir/printed")
-  awk -v shape="$1" -v n="$2" -v rounds="$3" -v points="$points" -v whole="$whole" -v before="$before" 'BEGIN {
+  awk -v shape="$1" -v n="$2" -v points="$points" -v whole="$whole" -v before="$before" 'BEGIN {
     cost = whole - before
-    printf "%s %d: %d points, %d rounds, instructions per point %.0f, per point and round %.0f\n", shape, n, points, rounds, cost / points, cost / points / rounds }'
+    printf "%s %d: %d points, instructions %.0f, per point %.0f\n", shape, n, points, cost, cost / points }'
 }
 
-if command -v valgrind >/dev/null; then
-  # a round that adds nothing is the last one; README.md says where the numbers of rounds come from
-  measure forward 400000 2
-  measure backward 1000 1000
-  measure backward 2000 2000
-  measure calls 100 104
-  measure calls 1000 1004
-else
-  echo "instructions: not measured, valgrind isn't installed"
-fi
-from=$(date +%s%N)
-"$program" calls 8000 solve > "$dir/printed"
-upto=$(date +%s%N)
-awk -v points="$(sed -n 's/^points //p' "$dir/printed")" -v took=$((upto - from)) 'BEGIN {
-  printf "calls 8000: %d points, 8004 rounds, %.1f s of wall time\n", points, took / 1000000000 }'
+command -v valgrind >/dev/null || { echo "summaries.sh: valgrind isn't installed" >&2; exit 1; }
+measure forward 400000
+measure backward 400000
+measure calls 1000
+measure calls 8000
+measure loops 400000
+measure recursion 8163
+measure table 600

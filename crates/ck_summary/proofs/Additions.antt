@@ -7,7 +7,7 @@ use Rattle.ck_rows.specs.declared.rows.Rows.{Rows}
 use Rattle.ck_rows.specs.Relation.{Relates}
 use Rattle.ck_rows.specs.Room.{room}
 use Rattle.ck_graph.specs.declared.points.Edge.{Edge}
-use Rattle.ck_graph.specs.Flow.{Flow, point_count}
+use Rattle.ck_graph.specs.Flow.{Flow}
 use Rattle.ck_summary.specs.Solution.{rows_at, no_rows}
 use Rattle.ck_summary.specs.Listing.{Listing, IsListed, size_of}
 use Rattle.ck_summary.specs.Growth.{Work, work, IsWorkFor, table_room, Grows, IsAddition, LeadsTo, IsGrowth}

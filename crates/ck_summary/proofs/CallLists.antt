@@ -1,6 +1,6 @@
 -- The lists of calls, as they are filled.
-use Rattle.std.proofs.Common.{◌≡◌, ◌⊎◌, ◌↔◌, ℕ, zero, suc, ◌+◌, ◌<◌, ◌≤◌, ◌≢◌, List, [], ◌∷◌, ◌++◌, Some, length, map, set, get_or, slice_get, refl, sym, ap, ◌∙◌, subst, inl, inr, arith, get_or-set_same, get_or-set_other}
-use Rattle.std.specs.List.{Contains, All}
+use Rattle.std.proofs.Common.{◌≡◌, ◌⊎◌, ◌↔◌, ℕ, zero, suc, ◌+◌, ◌<◌, ◌≤◌, ◌≢◌, List, [], ◌∷◌, ◌++◌, Some, length, set, get_or, slice_get, refl, sym, ap, ◌∙◌, subst, inl, inr, arith, get_or-set_same, get_or-set_other}
+use Rattle.std.specs.List.{Contains}
 use Rattle.std.proofs.lemmas.Bool.{cases_eq, cases_lt}
 use Rattle.std.proofs.lemmas.List.{length-append, length-set, length-map, map-set, get_or-map}
 use Rattle.std.proofs.lemmas.List.Elements.{Contains-get_or, Contains-push, Contains-push_cases, Contains-append_left}
@@ -9,13 +9,12 @@ use Rattle.std.specs.declared.alloc.Global.{Global}
 use Rattle.std.specs.declared.vec.Vec.{Vec}
 use Rattle.ck_base.specs.declared.spans.FnId.{FnId}
 use Rattle.ck_base.specs.declared.spans.PointId.{PointId}
-use Rattle.ck_graph.specs.declared.points.PointKind.{PointKind}
 use Rattle.ck_graph.specs.declared.points.PointKind.TheVariants.{Call}
 use Rattle.ck_graph.specs.Flow.{Flow, point_at, function_count}
 use Rattle.ck_graph.specs.Walk.{names_target}
-use Rattle.ck_graph.specs.Steps.{kind_at, IsCall, MayEnter}
+use Rattle.ck_graph.specs.Steps.{kind_at, MayEnter}
 use Rattle.ck_summary.specs.Solution.{callers_at, items_of, lists_of, AreCallers}
-use Rattle.ck_summary.specs.Callers.{IsTarget, AddsCaller}
+use Rattle.ck_summary.specs.Callers.{AddsCaller}
 use Rattle.ck_summary.proofs.Targets.{MayEnter-from_place, named-place}
 
 pub callers_at-set_same : (lists : List (List PointId)) (i : ℕ) (calls : List PointId) → i < length lists →

@@ -1,9 +1,8 @@
 -- The numbers in order, and two elements of a permutation that change places.
-use Rattle.std.proofs.Common.{◌≡◌, ◌≢◌, ℕ, ◌+◌, ◌<◌, ◌≤◌, ◌^◌, ◌⊎◌, List, length, set, get_or, refl, sym, ap, ◌∙◌, subst, inl, inr, arith, get_or-set_same, get_or-set_other}
+use Rattle.std.proofs.Common.{◌≡◌, ◌≢◌, ℕ, ◌+◌, ◌<◌, ◌≤◌, ◌^◌, List, length, set, get_or, sym, ap, ◌∙◌, subst, inl, inr, arith, get_or-set_same, get_or-set_other}
 use Rattle.std.proofs.lemmas.Bool.{cases_eq}
 use Rattle.std.proofs.lemmas.List.{length-set}
-use Rattle.std.specs.Prelude.{slice_index, slice_set}
-use Rattle.ck_summary.specs.Listing.{Listing, IsInverse}
+use Rattle.ck_summary.specs.Listing.{IsInverse}
 
 abbrev set_two : List ℕ → ℕ → ℕ → ℕ → ℕ → List ℕ
 set_two xs i a k b = set (set xs i a) k b

@@ -1,8 +1,7 @@
 -- What a look at a point adds is derived, and the point has been looked at then.
-use Rattle.std.proofs.Common.{◌≡◌, ◌⊎◌, ℕ, zero, suc, ◌+◌, ◌<◌, ◌≤◌, Bool, true, false, List, [], ◌∷◌, Some, length, slice_get, eqb, cond, refl, sym, ap, ◌∙◌, subst, inl, inr, arith}
-use Rattle.std.proofs.lemmas.Bool.{eqb-true, eq-eqb, cases_eq}
+use Rattle.std.proofs.Common.{◌≡◌, ◌⊎◌, ℕ, List, length, slice_get, refl, sym, ap, ◌∙◌, subst, inl, inr, arith}
+use Rattle.std.proofs.lemmas.Bool.{cases_eq}
 use Rattle.std.proofs.lemmas.Option.{slice_get_within}
-use Rattle.ck_base.specs.declared.spans.FnId.{FnId}
 use Rattle.ck_base.specs.declared.ops.Op.{Op}
 use Rattle.ck_base.specs.declared.states.State.{State}
 use Rattle.ck_base.specs.declared.states.Outcome.TheVariants.{Next}
@@ -16,14 +15,13 @@ use Rattle.ck_graph.specs.declared.points.PointKind.TheVariants.{Plain, Act, Cal
 use Rattle.ck_graph.specs.declared.entries.Root.{Root}
 use Rattle.ck_graph.specs.Flow.{Flow, point_at}
 use Rattle.ck_graph.specs.Faults.{IsSound, FitsKind}
-use Rattle.ck_graph.specs.Walk.{names_target}
-use Rattle.ck_graph.specs.Steps.{kind_at, first_of, exit_of, HasEdge, IsCall, MayEnter, Leads}
+use Rattle.ck_graph.specs.Steps.{kind_at, first_of, exit_of, HasEdge, MayEnter, Leads}
 use Rattle.ck_graph.specs.Summary.{Derived, along_edge, by_act, into_call, over_call}
 use Rattle.ck_graph.proofs.SoundGraphs.{there-from_call, target-below}
 use Rattle.ck_summary.specs.Solution.{rows_at}
 use Rattle.ck_summary.specs.Listing.{Listing, IsListed}
 use Rattle.ck_summary.specs.Passing.{DerivedCodes, AllDerived, IsPassedOn, IsReturned, IsLookedAt, IsClosedBut}
-use Rattle.ck_summary.specs.Growth.{Work, Keeps, Grows, IsAddition, LeadsTo, IsGrowth, AreEntries, IsStep}
+use Rattle.ck_summary.specs.Growth.{Work, Keeps, Grows, IsAddition, LeadsTo, IsGrowth, IsStep}
 use Rattle.ck_summary.proofs.StateCodes.{state_code-one}
 
 abbrev pub edges_at : Flow → ℕ → List Edge

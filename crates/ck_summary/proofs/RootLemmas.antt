@@ -1,5 +1,5 @@
 -- The functions of the roots are entered.
-use Rattle.std.proofs.Common.{◌≡◌, ◌⊎◌, ℕ, ◌+◌, ◌<◌, List, refl, sym, ap, ◌∙◌, subst, inl, inr}
+use Rattle.std.proofs.Common.{◌≡◌, ℕ, List, sym, ◌∙◌, subst, inl, inr}
 use Rattle.std.specs.List.{Contains}
 use Rattle.ck_base.specs.declared.states.State.{State}
 use Rattle.ck_base.specs.Act.{state_code}

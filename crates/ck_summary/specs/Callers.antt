@@ -1,5 +1,5 @@
 -- How the lists of calls are filled, one call point after the other. It serves private contracts alone.
-use Rattle.std.specs.Prelude.{◌≡◌, ◌↔◌, ◌⊎◌, ◌<◌, ℕ, List, length, Contains}
+use Rattle.std.specs.Prelude.{◌≡◌, ◌↔◌, ◌⊎◌, ℕ, List, length, Contains}
 use Rattle.ck_base.specs.declared.spans.FnId.{FnId}
 use Rattle.ck_base.specs.declared.spans.PointId.{PointId}
 use Rattle.ck_summary.specs.Solution.{callers_at}

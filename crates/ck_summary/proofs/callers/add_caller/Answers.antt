@@ -1,4 +1,3 @@
-use Rattle.std.proofs.Common.{arith}
 use Rattle.std.proofs.lemmas.Option.{slice_get-get_or}
 use Rattle.ck_base.specs.declared.spans.FnId.{FnId}
 use Rattle.ck_summary.specs.Solution.{lists_of}

@@ -1,6 +1,5 @@
-use Rattle.std.proofs.Common.{◌+◌, length, ap, ◌∙◌, refl, arith}
+use Rattle.std.proofs.Common.{◌+◌, length, ap, ◌∙◌, arith}
 use Rattle.std.proofs.lemmas.List.{length-map}
-use Rattle.ck_base.specs.declared.spans.PointId.{PointId}
 use Rattle.ck_summary.specs.Solution.{lists_of, items_of, callers_at}
 use Rattle.ck_summary.proofs.CallLists.{length-pushed, none-pushed, no_calls}
 use Rattle.ck_summary.proofs.callers.no_callers.Goals as goal

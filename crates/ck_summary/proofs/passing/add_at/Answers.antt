@@ -1,4 +1,4 @@
-use Rattle.std.proofs.Common.{true, false, subst}
+use Rattle.std.proofs.Common.{subst}
 use Rattle.ck_summary.specs.Solution.{rows_at}
 use Rattle.ck_summary.proofs.Additions.{IsUnion, IsAddition-same, IsAddition-new}
 use Rattle.ck_summary.proofs.passing.add_at.Goals as goal

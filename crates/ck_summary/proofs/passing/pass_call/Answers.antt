@@ -1,4 +1,4 @@
-use Rattle.std.proofs.Common.{ℕ, sym, subst, arith}
+use Rattle.std.proofs.Common.{ℕ, arith}
 use Rattle.std.proofs.lemmas.Option.{slice_get-get_or}
 use Rattle.ck_base.specs.declared.spans.FnId.{FnId}
 use Rattle.ck_rows.specs.declared.rows.Rows.{Rows}
@@ -9,7 +9,7 @@ use Rattle.ck_summary.specs.Passing.{IsReturned}
 use Rattle.ck_summary.specs.Growth.{work}
 use Rattle.ck_summary.proofs.Additions.{IsGrowth-none, IsGrowth-then, IsWorkFor-after}
 use Rattle.ck_summary.proofs.PointLemmas.{returned-between}
-use Rattle.ck_summary.proofs.Targets.{MayEnter-from_place, below-none, below-more, below-entered}
+use Rattle.ck_summary.proofs.Targets.{MayEnter-from_place, below-more, below-entered}
 use Rattle.ck_summary.proofs.passing.pass_call.Goals as goal
 
 pub loop-target-init : goal.loop-target-init

@@ -1,12 +1,11 @@
-use Rattle.std.proofs.Common.{◌≡◌, ◌<◌, ℕ, length, sym, ap, ◌∙◌, subst, arith}
+use Rattle.std.proofs.Common.{◌≡◌, ◌<◌, sym, ap, ◌∙◌, subst, arith}
 use Rattle.std.specs.List.{Contains}
 use Rattle.std.proofs.lemmas.List.{length-map}
-use Rattle.std.proofs.lemmas.List.Elements.{Contains-get_or}
 use Rattle.std.proofs.lemmas.Option.{slice_get-get_or}
 use Rattle.ck_base.specs.declared.spans.FnId.{FnId}
 use Rattle.ck_base.specs.declared.spans.PointId.{PointId}
 use Rattle.ck_graph.specs.Flow.{point_at, function_count}
-use Rattle.ck_graph.specs.Steps.{exit_of, MayEnter}
+use Rattle.ck_graph.specs.Steps.{exit_of}
 use Rattle.ck_graph.proofs.SoundGraphs.{target-below}
 use Rattle.ck_summary.specs.Solution.{callers_at, lists_of, items_of}
 use Rattle.ck_summary.specs.Passing.{IsReturned}

@@ -1,6 +1,5 @@
-use Rattle.std.proofs.Common.{◌≡◌, List, length, sym, ◌∙◌, subst}
-use Rattle.ck_rows.specs.declared.rows.Rows.{Rows}
-use Rattle.ck_graph.specs.declared.points.PointKind.TheVariants.{Plain, Act, Call, Exit}
+use Rattle.std.proofs.Common.{◌≡◌, length, sym, ◌∙◌, subst}
+use Rattle.ck_graph.specs.declared.points.PointKind.TheVariants.{Act}
 use Rattle.ck_graph.specs.Faults.{FitsKind}
 use Rattle.ck_graph.specs.Steps.{kind_at}
 use Rattle.ck_summary.specs.Solution.{rows_at}

@@ -3,11 +3,10 @@ use Rattle.std.specs.List.{All}
 use Rattle.ck_base.specs.declared.spans.PointId.{PointId}
 use Rattle.ck_rows.specs.declared.rows.Rows.{Rows}
 use Rattle.ck_graph.specs.declared.points.Edge.{Edge}
-use Rattle.ck_graph.specs.Steps.{exit_of}
 use Rattle.ck_graph.proofs.SoundGraphs.{target-below, there-from_call}
 use Rattle.ck_summary.specs.Solution.{rows_at}
 use Rattle.ck_summary.specs.Growth.{work, IsAddition, LeadsTo}
-use Rattle.ck_summary.proofs.PointLemmas.{IsImage, Ahead, growth-over, returned-over}
+use Rattle.ck_summary.proofs.PointLemmas.{IsImage, growth-over, returned-over}
 use Rattle.ck_summary.proofs.passing.return_to.Goals as goal
 
 pub exit-exit-requires : goal.exit-exit-requires

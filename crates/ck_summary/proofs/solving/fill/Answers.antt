@@ -1,4 +1,4 @@
-use Rattle.std.proofs.Common.{◌≡◌, ℕ, Some, inl, inr, ◌∙◌, arith}
+use Rattle.std.proofs.Common.{◌≡◌, inl, inr, ◌∙◌, arith}
 use Rattle.ck_summary.specs.Growth.{work}
 use Rattle.ck_summary.proofs.Additions.{IsWorkFor-after}
 use Rattle.ck_summary.proofs.PointLemmas.{closed-look}
