@@ -5,7 +5,8 @@ use Rattle.ck_base.specs.declared.refusals.Unsupported.TheVariants.{U23, U25}
 use Rattle.ck_io.specs.Environment.{Files}
 use Rattle.ck_cli.specs.declared.statuses.Status.{Status}
 use Rattle.ck_cli.specs.declared.statuses.Status.TheVariants.{Refused}
-use Rattle.ck_cli.specs.Answer.{IsAnswer, no_main, too_large, judged, main_name}
+use Rattle.ck_cli.specs.Answer.{IsAnswer, no_main, too_large, judged}
+use Rattle.ck_cli.specs.Placed.{main_name}
 use Rattle.ck_cli.specs.MainFile.{IsMissing, IsTooLarge, IsReadAs}
 use Rattle.ck_cli.specs.Promise.{Answers}
 use Rattle.ck_cli.specs.Texts.{unsupported_text}

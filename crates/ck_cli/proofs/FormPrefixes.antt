@@ -91,7 +91,8 @@ from_end tokens declared main calls texts is = record {
 pub CanGoOn-from_Stands : (position : Position) (tokens : List Token) (declared : Declared) (main : ℕ)
     (calls : List Call) (texts : List (List ℕ))
     → Stands position tokens declared main calls texts → CanGoOn texts
-CanGoOn-from_Stands Outside tokens declared main calls texts is = CanGoOn-prefix texts _ (from_prototype declared calls _ is)
+CanGoOn-from_Stands Outside tokens declared main calls texts is =
+    CanGoOn-prefix texts _ (from_prototype declared calls _ is)
 CanGoOn-from_Stands PrototypeName tokens declared main calls texts is =
     CanGoOn-prefix texts _ (from_void declared calls _ is)
 CanGoOn-from_Stands PrototypeOpen tokens declared main calls texts is =

@@ -42,7 +42,8 @@ pending CallEnd = codes ";" ∷ []
 pending _ = []
 
 -- prototypes, and then some texts
-pub record InPrototypes (last : List (List ℕ)) (declared : Declared) (calls : List Call) (texts : List (List ℕ)) : Type 0
+pub record InPrototypes (last : List (List ℕ)) (declared : Declared) (calls : List Call)
+    (texts : List (List ℕ)) : Type 0
   where
     pub prototypes : List KernelCall
     pub spelled : texts ≡ flat_map prototype prototypes ++ last

@@ -14,8 +14,10 @@ use Rattle.ck_cli.specs.FileForm.{FileForm, Spells, main_start, made_calls}
 use Rattle.ck_cli.specs.Stray.{IsStray}
 use Rattle.ck_cli.specs.Walk.{Alarms, Passes}
 use Rattle.ck_cli.specs.Placed.{IsRefusalText, IsAlarmText}
-use Rattle.ck_cli.specs.Verdict.{IsVerdict, faulty, stray, accepted, rejected, most_bytes}
-use Rattle.ck_cli.specs.Answer.{IsAnswer, no_main, too_large, judged, HaveOneAnswer, main_name}
+use Rattle.ck_cli.specs.Verdict.{IsVerdict, faulty, stray, accepted, rejected}
+use Rattle.ck_lexer.specs.Bytes.{most_bytes}
+use Rattle.ck_cli.specs.Answer.{IsAnswer, no_main, too_large, judged, HaveOneAnswer}
+use Rattle.ck_cli.specs.Placed.{main_name}
 use Rattle.ck_cli.specs.Promise.{Answers, IsOnlyAnswer}
 use Rattle.ck_cli.specs.Statuses.{code_of}
 use Rattle.ck_lexer.proofs.OneCut.{one_list, tokens_or_fault, one_fault}

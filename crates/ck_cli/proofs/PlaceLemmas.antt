@@ -10,7 +10,7 @@ use Rattle.ck_cli.specs.declared.form.Call.{Call}
 use Rattle.ck_cli.specs.FileForm.{token_start, calls_from}
 use Rattle.ck_cli.specs.Stray.{IsStray, at_token, at_end}
 use Rattle.ck_cli.specs.Texts.{PlacedCall, place_text, unsupported_text, rejected_text}
-use Rattle.ck_cli.specs.Placed.{IsPlaceInMain, IsPlaced, ArePlaced, IsRefusalText, IsAlarmText}
+use Rattle.ck_cli.specs.Placed.{main_name, IsPlaceInMain, IsPlaced, ArePlaced, IsRefusalText, IsAlarmText}
 use Rattle.ck_lexer.proofs.OnePlace.{one_place}
 
 -- the spans are of the file
@@ -42,7 +42,7 @@ same_parts a b p q e f = rw (e, f) refl
 
 one_placed : (bytes : List ℕ) (c : Call) (p q : PlacedCall) → IsPlaced bytes c p → IsPlaced bytes c q → p ≡ q
 one_placed bytes c p q is_p is_q =
-    same_parts p.call q.call p.place q.place (is_p.call ∙ sym is_q.call) (one_place (codes "main.i") bytes c.start
+    same_parts p.call q.call p.place q.place (is_p.call ∙ sym is_q.call) (one_place main_name bytes c.start
     p.place q.place is_p.place is_q.place)
 
 one_by_one : (bytes : List ℕ) (calls : List Call) (ps qs : List PlacedCall)
@@ -60,7 +60,7 @@ one_by_one bytes (c ∷ calls) (p ∷ ps) [] are_p are_q = absurd are_q
 pub one_refusal : (bytes : List ℕ) (j k : Unsupported) (m n : ℕ) (a b : List ℕ)
     → j ≡ k → m ≡ n → IsRefusalText bytes j m a → IsRefusalText bytes k n b → a ≡ b
 one_refusal bytes j k m n a b same_kind same_offset is_a is_b =
-    let same : is_a.place ≡ is_b.place = one_place (codes "main.i") bytes n is_a.place is_b.place
+    let same : is_a.place ≡ is_b.place = one_place main_name bytes n is_a.place is_b.place
     (subst (λ o. IsPlaceInMain bytes o is_a.place) same_offset is_a.there) is_b.there in
     is_a.written ∙ (ap (λ p. unsupported_text j (place_text p)) same ∙ (ap
     (λ k. unsupported_text k (place_text is_b.place)) same_kind ∙ sym is_b.written))
@@ -76,7 +76,7 @@ pub one_alarm : (bytes : List ℕ) (m n : ℕ) (before_a before_b : List Call) (
     → IsAlarmText bytes n before_b d k b → a ≡ b
 one_alarm bytes m n before_a before_b c d j k a b e f g h is_a is_b =
     is_a.written ∙ (same_text is_a.main_place is_b.main_place is_a.acts is_b.acts is_a.last is_b.last j k
-    (one_place (codes "main.i") bytes n is_a.main_place is_b.main_place (subst
+    (one_place main_name bytes n is_a.main_place is_b.main_place (subst
     (λ o. IsPlaceInMain bytes o is_a.main_place) e is_a.of_main) is_b.of_main)
     (one_by_one bytes before_b is_a.acts is_b.acts (subst (λ cs. ArePlaced bytes cs is_a.acts) f is_a.of_acts)
     is_b.of_acts)

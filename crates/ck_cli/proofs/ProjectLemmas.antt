@@ -10,8 +10,9 @@ use Rattle.std.proofs.lemmas.List.Folds.{list_all-map}
 use Rattle.std.proofs.lemmas.List.Sums.{AllPass-from_list_all, list_all-from_AllPass}
 use Rattle.std.proofs.lemmas.List.Sorted.{All-permutation, Contains-permutation, IsPermutation-sym}
 use Rattle.ck_io.specs.Environment.{File, Files, names_of, bytes_of, TellsNames, HasName, HasBytes, IsTooLong}
-use Rattle.ck_cli.specs.Answer.{HasJustMain, is_source, main_name}
-use Rattle.ck_cli.specs.Verdict.{most_bytes}
+use Rattle.ck_cli.specs.Answer.{HasJustMain, is_source}
+use Rattle.ck_cli.specs.Placed.{main_name}
+use Rattle.ck_lexer.specs.Bytes.{most_bytes}
 use Rattle.ck_cli.proofs.Cases.{either}
 use Rattle.ck_cli.specs.MainFile.{IsMissing, IsTooLarge, IsReadAs}
 

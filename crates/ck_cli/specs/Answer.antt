@@ -7,10 +7,9 @@ use Rattle.ck_io.specs.Environment.{Files, names_of, bytes_of}
 use Rattle.ck_cli.specs.declared.statuses.Status.{Status}
 use Rattle.ck_cli.specs.declared.statuses.Status.TheVariants.{Refused}
 use Rattle.ck_cli.specs.Texts.{unsupported_text}
-use Rattle.ck_cli.specs.Verdict.{IsVerdict, most_bytes}
-
-abbrev pub main_name : List ℕ
-main_name = codes "main.i"
+use Rattle.ck_cli.specs.Placed.{main_name}
+use Rattle.ck_cli.specs.Verdict.{IsVerdict}
+use Rattle.ck_lexer.specs.Bytes.{most_bytes}
 
 -- a name of a source file
 abbrev pub is_source : List ℕ → Bool

@@ -3,9 +3,10 @@ use Rattle.std.specs.Prelude.{◌≡◌, ◌≤◌, ◌<◌, ℕ, List, length, 
 use Rattle.ck_io.specs.Environment.{Files, names_of, bytes_of}
 use Rattle.ck_cli.specs.declared.project.MainFile.{MainFile}
 use Rattle.ck_cli.specs.declared.project.MainFile.TheVariants.{Missing, TooLarge, Read}
-use Rattle.ck_cli.specs.Answer.{HasJustMain, main_name}
+use Rattle.ck_cli.specs.Answer.{HasJustMain}
+use Rattle.ck_cli.specs.Placed.{main_name}
 use Rattle.ck_cli.specs.Promise.{AreTold}
-use Rattle.ck_cli.specs.Verdict.{most_bytes}
+use Rattle.ck_lexer.specs.Bytes.{most_bytes}
 
 pub record IsMissing (told : Option Files) : Type 0 where
   pub files : Files

@@ -7,9 +7,13 @@ use Rattle.ck_lexer.specs.Places.{Place, IsPlace}
 use Rattle.ck_cli.specs.declared.form.Call.{Call}
 use Rattle.ck_cli.specs.Texts.{PlacedCall, place_text, unsupported_text, rejected_text}
 
+-- the name of the file that is checked
+abbrev pub main_name : List ℕ
+main_name = codes "main.i"
+
 -- the place of the byte at an offset, or of the file's end
 abbrev pub IsPlaceInMain : List ℕ → ℕ → Place → Type 0
-IsPlaceInMain bytes offset place = IsPlace (codes "main.i") bytes offset place
+IsPlaceInMain bytes offset place = IsPlace main_name bytes offset place
 
 -- a call with the place at which it begins
 pub record IsPlaced (bytes : List ℕ) (c : Call) (p : PlacedCall) : Type 0 where

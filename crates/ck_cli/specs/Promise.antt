@@ -7,7 +7,8 @@ use Rattle.ck_io.specs.Environment.{Files, bytes_of, Appends}
 use Rattle.ck_cli.specs.declared.statuses.Status.{Status}
 use Rattle.ck_cli.specs.declared.statuses.Status.TheVariants.{Accepted}
 use Rattle.ck_cli.specs.Statuses.{code_of}
-use Rattle.ck_cli.specs.Answer.{IsAnswer, main_name}
+use Rattle.ck_cli.specs.Answer.{IsAnswer}
+use Rattle.ck_cli.specs.Placed.{main_name}
 use Rattle.ck_cli.specs.Kernel.{KernelIsQuiet}
 
 -- the words are the program's name, which isn't looked at, and `check`

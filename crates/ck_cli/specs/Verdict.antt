@@ -17,10 +17,6 @@ use Rattle.ck_cli.specs.Walk.{Alarms, Passes}
 use Rattle.ck_cli.specs.Texts.{accepted_text}
 use Rattle.ck_cli.specs.Placed.{IsRefusalText, IsAlarmText}
 
--- the greatest number of bytes of a file
-abbrev pub most_bytes : ℕ
-most_bytes = 1048576
-
 -- the verdict on these bytes: the one of these that applies
 pub data IsVerdict (bytes : List ℕ) : Status → List ℕ → Type 0 where
   -- they have a fault, U1 to U6: the first one, at the first byte of its span

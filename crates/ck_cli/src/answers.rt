@@ -1,12 +1,13 @@
 //! The answer to a folder's files.
 ghost use Rattle.std.specs.Prelude.{◌≡◌, ◌≢◌, ◌≤◌, length, IfOk};
 ghost use Rattle.ck_io.specs.Environment.{Rose};
+ghost use Rattle.ck_lexer.specs.Bytes.{most_bytes};
 ghost use Rattle.ck_lexer.specs.Tokens.{AreTokens, IsFirstFault};
 ghost use Rattle.ck_cli.specs.Placed.{IsRefusalText};
 ghost use Rattle.ck_cli.specs.Promise.{Answers};
 ghost use Rattle.ck_cli.specs.Sources.{AreWithin, HasPlaces};
 ghost use Rattle.ck_cli.specs.Texts.{unsupported_text};
-ghost use Rattle.ck_cli.specs.Verdict.{IsVerdict, most_bytes};
+ghost use Rattle.ck_cli.specs.Verdict.{IsVerdict};
 ghost use Rattle.ck_cli.specs.Walked.{IsWalked};
 
 use crate::form::{Form, Reading, read};
@@ -15,9 +16,9 @@ use crate::source::Source;
 use crate::statuses::Status;
 use crate::texts::{accepted, rejected, unsupported, unsupported_at};
 use crate::walk::first_alarm;
-use ck_base::{Fault, OutOfMemory, Refusal, Spot, Token, Unsupported};
+use ck_base::{OutOfMemory, Refusal, Spot, Token, Unsupported};
 use ck_io::Folder;
-use ck_lexer::lex;
+use ck_lexer::{FileScan, scan};
 use std::alloc::Global;
 
 /// A status and the whole text of the report.
@@ -58,11 +59,11 @@ fn verdict(alloc: Global, bytes: &[u8]) -> Result<Answer, OutOfMemory>
     requires { length bytes.now ≤ most_bytes }
     ensures { IfOk result (λ a. IsVerdict bytes.now a.status a.text.items) }
 {
-    let source = Source::new(alloc, bytes)?;
-    match lex(alloc, 0, bytes) {
+    let FileScan { places, tokens } = scan(alloc, 0, MAIN, bytes)?;
+    let source = Source::new(bytes, places);
+    match tokens {
         Ok(tokens) => verdict_on_tokens(alloc, &source, &tokens),
-        Err(Fault::Unsupported(refusal)) => verdict_on_fault(alloc, &source, refusal),
-        Err(Fault::Memory) => Err(OutOfMemory),
+        Err(refusal) => verdict_on_fault(alloc, &source, refusal),
     }
 }
 
@@ -104,7 +105,8 @@ fn verdict_on_form(alloc: Global, source: &Source<'_>, form: &Form) -> Result<An
     requires places { HasPlaces source.now }
     requires entry { form.now.main ≤ length source.now.bytes.now }
     requires calls { AreWithin source.now form.now.calls.items }
-    ensures { IfOk result (λ a. IsWalked source.now.bytes.now form.now.main form.now.calls.items a.status a.text.items) }
+    ensures { IfOk result (λ a.
+        IsWalked source.now.bytes.now form.now.main form.now.calls.items a.status a.text.items) }
 {
     match first_alarm(&form.calls) {
         None => {
@@ -133,7 +135,8 @@ fn refused_at(
 ) -> Result<Answer, OutOfMemory>
     requires places { HasPlaces source.now }
     requires within { offset ≤ length source.now.bytes.now }
-    ensures { IfOk result (λ a. (a.status ≡ Status.Refused) × IsRefusalText source.now.bytes.now kind offset a.text.items) }
+    ensures { IfOk result (λ a.
+        (a.status ≡ Status.Refused) × IsRefusalText source.now.bytes.now kind offset a.text.items) }
 {
     let text = unsupported_at(alloc, source, kind, offset)?;
     Ok(Answer {

@@ -1,7 +1,7 @@
 //! The file form, read from the tokens.
 ghost use Rattle.std.specs.Prelude.{◌≡◌, ◌≤◌, length, All, IfOk};
+ghost use Rattle.ck_lexer.specs.Bytes.{most_bytes};
 ghost use Rattle.ck_cli.specs.Reading.{IsReading};
-ghost use Rattle.ck_cli.specs.Verdict.{most_bytes};
 
 use crate::calls::KernelCall;
 use crate::declared::Declared;

@@ -72,7 +72,8 @@ pub fn rtcheck<F: Folder, K: Sink>(
     // a prefix of the text.
     ensures reports { HasReport result → Reports (F.told folder.old) (K.taken sink.old) (K.taken sink.new) result }
     ensures only { HasReport result → IsOnlyAnswer (F.told folder.old) result }
-    ensures partly { result ≡ code_of Status.WriteFault → ReportsPartly (F.told folder.old) (K.taken sink.old) (K.taken sink.new) }
+    ensures partly { result ≡ code_of Status.WriteFault →
+        ReportsPartly (F.told folder.old) (K.taken sink.old) (K.taken sink.new) }
 
     // Accepted implies that the kernel's own checks halt nowhere on the file's calls.
     ensures quiet { result ≡ code_of Status.Accepted → KernelIsQuietOn (F.told folder.old) }

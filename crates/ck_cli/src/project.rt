@@ -4,7 +4,8 @@ ghost use Rattle.std.specs.Prelude.{codes};
 ghost use Rattle.std.specs.List.{list_any, list_all};
 ghost use Rattle.std.specs.Str.{bytes_eq};
 ghost use Rattle.ck_io.specs.Environment.{Rose};
-ghost use Rattle.ck_cli.specs.Answer.{HasJustMain, is_source as ends_in_i, main_name};
+ghost use Rattle.ck_cli.specs.Answer.{HasJustMain, is_source as ends_in_i};
+ghost use Rattle.ck_cli.specs.Placed.{main_name};
 ghost use Rattle.ck_cli.specs.MainFile.{IsFound};
 
 use ck_base::OutOfMemory;

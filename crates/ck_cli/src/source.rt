@@ -1,15 +1,12 @@
 //! The bytes of `main.i`, the texts of its tokens, and its places.
-ghost use Rattle.std.specs.Prelude.{◌≡◌, ◌≤◌, length, IfOk};
-ghost use Rattle.ck_lexer.specs.PlaceMaps.{place_of};
+ghost use Rattle.std.specs.Prelude.{◌≡◌, ◌≤◌, length};
+ghost use Rattle.ck_lexer.specs.PlaceMaps.{IsPlaceMapOf, place_of};
 ghost use Rattle.ck_base.specs.TokenText.{text_of as text_of_token};
-ghost use Rattle.ck_cli.specs.Placed.{IsPlaceInMain};
+ghost use Rattle.ck_cli.specs.Placed.{IsPlaceInMain, main_name};
 ghost use Rattle.ck_cli.specs.Sources.{HasPlaces};
-ghost use Rattle.ck_cli.specs.Verdict.{most_bytes};
 
-use crate::project::MAIN;
-use ck_base::{OutOfMemory, Token};
-use ck_lexer::{PlaceMap, PlaceName, place, place_map};
-use std::alloc::Global;
+use ck_base::Token;
+use ck_lexer::{PlaceMap, PlaceName, place};
 
 /// The bytes of `main.i`, and their places.
 #[derive(Drop)]
@@ -19,13 +16,13 @@ pub(crate) struct Source<'a> {
 }
 
 impl<'a> Source<'a> {
-    /// These bytes, of which there are at most 1,048,576, with their places.
-    pub(crate) fn new(alloc: Global, bytes: &'a [u8]) -> Result<Source<'a>, OutOfMemory>
-        requires { length bytes.now ≤ most_bytes }
-        ensures { IfOk result (λ source. (source.bytes.now ≡ bytes.now) × HasPlaces source) }
+    /// These bytes of `main.i`, with their places.
+    pub(crate) fn new(bytes: &'a [u8], places: PlaceMap) -> Source<'a>
+        requires { IsPlaceMapOf main_name bytes.now places }
+        ensures bytes { result.bytes.now ≡ bytes.now }
+        ensures places { HasPlaces result }
     {
-        let places = place_map(alloc, MAIN, bytes)?;
-        Ok(Source { bytes, places })
+        Source { bytes, places }
     }
 
     /// The place of the byte at an offset, or of the file's end.

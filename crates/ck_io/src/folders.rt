@@ -168,7 +168,8 @@ fn read_more<F: Folder>(
     ensures kept { F.told folder.new ≡ F.told folder.old }
     ensures counted { F.faults folder.old ≤ F.faults folder.new }
     ensures within { IfOk result (λ count. count ≤ length buffer.old) }
-    ensures read { IfOk result (λ count. ReadsAt (F.told folder.old) name.now (vec_len bytes.old) buffer.old buffer.new count) }
+    ensures read { IfOk result (λ count.
+        ReadsAt (F.told folder.old) name.now (vec_len bytes.old) buffer.old buffer.new count) }
     ensures appended { IfOk result (λ count. bytes.new.items ≡ bytes.old.items ++ take count buffer.new) }
     ensures len { IfOk result (λ count. vec_len bytes.new ≡ vec_len bytes.old + count) }
     ensures not_long { result ≢ Err ReadError.TooLong }

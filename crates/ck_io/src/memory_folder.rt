@@ -126,7 +126,8 @@ impl Folder for MemoryFolder {
         ensures fail_kept { folder_fail self.new ≡ folder_fail self.old }
         ensures counted { folder_faults self.old ≤ folder_faults self.new }
         ensures called { folder_calls self.new ≡ one_more (folder_calls self.old) }
-        ensures named { IfOk result (λ names. TellsNames (Some (folder_files self.old)) (map string_bytes names.items)) }
+        ensures named { IfOk result (λ names.
+            TellsNames (Some (folder_files self.old)) (map string_bytes names.items)) }
         ensures fails { (result ≡ Err NamesError.Failed) ↔ FailsNext (folder_fail self.old) (folder_calls self.old) }
         ensures failed { result ≡ Err NamesError.Failed → folder_faults self.new ≡ one_more (folder_faults self.old) }
         ensures not_failed { (result ≢ Err NamesError.Failed) → folder_faults self.new ≡ folder_faults self.old }
@@ -147,8 +148,10 @@ impl Folder for MemoryFolder {
         ensures counted { folder_faults self.old ≤ folder_faults self.new }
         ensures called { folder_calls self.new ≡ one_more (folder_calls self.old) }
         ensures within { IfOk result (λ count. count ≤ length buffer.new) }
-        ensures read { IfOk result (λ count. ReadsAt (Some (folder_files self.old)) name.now at buffer.old buffer.new count) }
-        ensures fully { IfOk result (λ count. FillsFully (folder_files self.old) name.now at (length buffer.old) count) }
+        ensures read { IfOk result (λ count.
+            ReadsAt (Some (folder_files self.old)) name.now at buffer.old buffer.new count) }
+        ensures fully { IfOk result (λ count.
+            FillsFully (folder_files self.old) name.now at (length buffer.old) count) }
         ensures unread { OnErr result (buffer.new ≡ buffer.old) }
         ensures fails { IsErr result ↔ FailsNext (folder_fail self.old) (folder_calls self.old) }
         ensures failed { OnErr result (folder_faults self.new ≡ one_more (folder_faults self.old)) }

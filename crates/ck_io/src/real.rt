@@ -85,8 +85,10 @@ impl<'a, R: Files + AllocGlobal> Folder for RealFolder<'a, R> {
     /// that isn't UTF-8 too, but for want of memory, which comes as `Memory`.
     fn names(&mut self, alloc: Global) -> Result<Vec<String>, NamesError>
         ensures counted { real_folder_faults self.old ≤ real_folder_faults self.new }
-        ensures failed { result ≡ Err NamesError.Failed → real_folder_faults self.new ≡ one_more (real_folder_faults self.old) }
-        ensures not_failed { (result ≢ Err NamesError.Failed) → real_folder_faults self.new ≡ real_folder_faults self.old }
+        ensures failed { result ≡ Err NamesError.Failed →
+            real_folder_faults self.new ≡ one_more (real_folder_faults self.old) }
+        ensures not_failed { (result ≢ Err NamesError.Failed) →
+            real_folder_faults self.new ≡ real_folder_faults self.old }
     {
         match read_names(self.rt, alloc) {
             Ok(names) => Ok(names),

@@ -1,4 +1,4 @@
--- Characters and escapes at the front of a literal's rest.
+-- Characters and escapes, one after the other.
 use Rattle.std.proofs.Common.{◌≡◌, ℕ, zero, suc, ◌+◌, ◌-◌, ◌<◌, ◌≤◌, false, List, [], ◌∷◌, length, drop, Some, None, ap, sym, ◌∙◌, refl, arith}
 use Rattle.std.proofs.lemmas.List.{drop-drop}
 use Rattle.ck_lexer.specs.Constants.{character_size, are_characters, are_characters_after}

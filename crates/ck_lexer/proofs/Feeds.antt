@@ -1,4 +1,4 @@
--- Line feeds up to a place, columns, and a place further on.
+-- Line feeds up to an offset, columns, and the place of a later offset.
 use Rattle.std.proofs.Common.{◌≡◌, ℕ, zero, suc, ◌+◌, ◌-◌, ◌<◌, ◌≤◌, Bool, true, false, cond, not, List, length, take, get_or, ⊎_elim, refl, sym, ap, ◌∙◌, subst, arith}
 use Rattle.std.proofs.Math.Seq.{take-add}
 use Rattle.std.proofs.str.Laws.{order}
@@ -65,7 +65,7 @@ place_read name bytes offset text k l c d line column is =
     subst (λ x. IsPlace name bytes offset (place_with text x d)) line
     (subst (λ x. IsPlace name bytes offset (place_with text k x)) column is)
 
--- where no marker's line feed found between two places, the second has the first's name, and a line more for each feed
+-- where no marker ends between two offsets, the second has the first's name, and a line more for each line feed
 pub place_on_from : (name bytes : List ℕ) (from to : ℕ) (p : Place) (line column : ℕ) → from ≤ to → to ≤ length bytes
     → NoMarkers bytes from to → line_feeds (take to bytes) + p.line ≡ line_feeds (take from bytes) + line
     → column_at bytes to ≡ column → IsPlace name bytes from p → IsPlace name bytes to (place_with p.name line column)

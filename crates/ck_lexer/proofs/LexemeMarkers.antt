@@ -203,7 +203,7 @@ pub marked_small : (bytes : List ℕ) (at end : ℕ) (marked : Marked) → IsMar
     → marked.number < 1000000000
 marked_small bytes at end marked is = marker_of-small (slice_range bytes at end) marked.number marked.name.now is.read
 
--- no line feed found in a marker
+-- there is no line feed in a marker
 pub marked_feeds : (bytes : List ℕ) (at end : ℕ) → end ≡ at + prefix_len is_no_line_feed (drop at bytes)
     → NoFeeds bytes at end
 marked_feeds bytes at end ends k low high =

@@ -188,7 +188,7 @@ lines_end name bytes m on at are end small = record {
   next = λ k inside feed. are.next k (omega arith) feed;
 }
 
--- from the last line that starts before an offset no line feed found up to it
+-- there is no line feed between the start of the last line before an offset and the offset
 no_feeds_from : (name bytes : List ℕ) (m : PlaceMap) (offset : ℕ) (line : Line) → IsPlaceMapOf name bytes m
     → offset ≤ length bytes → IsLastBefore m.lines.items offset line → NoFeeds bytes line.start offset
 no_feeds_from name bytes m offset line is within last at low high =

@@ -52,7 +52,7 @@ only_literal b text q open_ =
     (λ l. open_ (literal-closed b text l))
     (λ p. let e = single-quote b (punctuator-first b text p) in absurd (cc))
 
--- a closed front fixes where the literal closes
+-- a closed prefix fixes where the literal closes
 closed-closing : (b : ℕ) (text : List ℕ) (m : ℕ) → is_quote b ≡ true → m ≤ length text
     → is_closed b (take m text) ≡ true → closing b text ≡ Some m
 closed-closing b text m q fits h =

@@ -120,7 +120,7 @@ longest-number b text first = record {
   longer zero more fits = absurd (omega arith)
   longer (suc m) more fits = longer_by m (omega arith) (omega arith)
 
--- what begins a front begins the whole
+-- what begins a prefix begins the whole
 pub prefix-begins : (b : ℕ) (text : List ℕ) (m : ℕ) → begins_number (b ∷ take m text) ≡ true
     → begins_number (b ∷ text) ≡ true
 prefix-begins b [] zero h = h

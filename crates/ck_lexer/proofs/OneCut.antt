@@ -38,7 +38,7 @@ pub nothing_at_end : (bytes : List ℕ) (end : ℕ) (lexeme : Lexeme) → IsLexe
 nothing_at_end bytes end lexeme found = let some : 0 < length (drop (length bytes) bytes) = found.is.0 in
     omega (arith, some, length-drop (length bytes) bytes)
 
--- two runs of all_trivia from one place, of which neither can go on, end at one place
+-- two runs of trivia from one offset, of which neither can go on, end at one offset
 one_trivia_end : (bytes : List ℕ) (from a b : ℕ) (xs ys : List ℕ) → AreTrivia bytes from xs a
     → AreTrivia bytes from ys b → NoTriviaAt bytes a → NoTriviaAt bytes b → a ≡ b
 one_trivia_end bytes from a b [] [] p q no_a no_b = sym p ∙ q
@@ -68,7 +68,7 @@ same_tokens t u kind file start end =
 same_kind : (j k : TokenKind) → LexemeVariant.Token j ≡ LexemeVariant.Token k → j ≡ k
 same_kind j k e = cc
 
--- two tokens after one place are one
+-- two tokens after one offset are one
 one_token : (file : ℕ) (bytes : List ℕ) (from : ℕ) (t u : Token) → IsTrivia bytes from t.span.start
     → IsToken file bytes t → IsTrivia bytes from u.span.start → IsToken file bytes u → t ≡ u
 one_token file bytes from t u p a q b =
@@ -90,7 +90,7 @@ no_more file bytes from a t p stops q b =
     (no_trivia_at_token bytes t.span.start t.span.end t.kind b.there) stops.0 in
     stops.1 t.span.end t.kind (subst (λ at. IsLexeme bytes at t.span.end (LexemeVariant.Token t.kind)) start b.there)
 
--- two runs of tokens from one place, of which neither can go on, are one and end at one place
+-- two runs of tokens from one offset, of which neither can go on, are one and end at one offset
 one_run : (file : ℕ) (bytes : List ℕ) (from a b : ℕ) (ts us : List Token) → AreTokensBetween file bytes from ts a
     → AreTokensBetween file bytes from us b → Stops bytes a → Stops bytes b → (ts ≡ us) × (a ≡ b)
 one_run file bytes from a b [] [] p q stops_a stops_b = (refl, one_trivia bytes from a b p q stops_a.0 stops_b.0)

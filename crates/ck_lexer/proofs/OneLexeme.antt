@@ -1,4 +1,4 @@
--- What found at a place of a file is one lexeme.
+-- At an offset of a file there is at most one lexeme.
 use Rattle.std.proofs.Common.{◌≡◌, ℕ, ◌+◌, ◌<◌, ◌≤◌, true, false, List, take, drop, refl, sym, ap, ◌∙◌, arith}
 use Rattle.std.proofs.lemmas.Bool.{both_ways}
 use Rattle.ck_lexer.specs.Cuts.{IsLexeme, is_clear}

@@ -15,7 +15,7 @@ use Rattle.ck_lexer.specs.Scanning.{after_blanks, closing, marker_digits, marker
 use Rattle.ck_lexer.proofs.LiteralLemmas.{closing-is_closed, either, is_closed-closing, is_closed-last}
 use Rattle.ck_lexer.proofs.Values.{value-small}
 
--- where all of one list pass and the next does not, the front is that list
+-- where all of one list pass and the next does not, the prefix is that list
 pub prefix_len_at : (p : ℕ → Bool) (xs ys : List ℕ) → list_all p xs ≡ true → prefix_len p ys ≡ 0
     → prefix_len p (xs ++ ys) ≡ length xs
 prefix_len_at p [] ys all none = none

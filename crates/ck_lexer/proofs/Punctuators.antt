@@ -119,7 +119,7 @@ no_second a =
       zero_doubled : a ≡ 0 → is_one_of (codes "+-<>&|") a ≡ true → ⊥
       zero_doubled e h = let k : is_one_of (codes "+-<>&|") a ≡ false = rw e refl in absurd (cc)
 
--- a punctuator at the front is no longer than the one that the code takes
+-- no punctuator that a text begins with is longer than the one that the code takes
 pub punctuator-le : (rest : List ℕ) (m : ℕ) → is_punctuator (take m rest) ≡ true → m ≤ length rest
     → m ≤ punctuator_size rest
 punctuator-le rest zero h fits = omega arith

@@ -18,7 +18,7 @@ digit_value b =
 abbrev pub value_of : ℕ → List ℕ → ℕ
 value_of base digits = fold (λ value b. value * base + digit_value b) 0 digits
 
--- `0x` and `0X` are hexadecimal, another `0` in front is octal
+-- `0x` and `0X` are hexadecimal, any other text that begins with `0` is octal
 abbrev pub begins_hexadecimal : List ℕ → Bool
 begins_hexadecimal text = slice_index text 0 ∈ "0" && slice_index text 1 ∈ "xX"
 

@@ -15,7 +15,9 @@ use Rattle.ck_summary.specs.Passing.{HasPair, AllDerived, IsClosedBut}
 use Rattle.ck_summary.specs.Growth.{Work, Grows, IsAddition}
 use Rattle.ck_summary.specs.Roots.{IsEntry}
 
-pub derived-root : (flow : Flow) (roots : List Root) (root : Root) (f : ℕ) (entry : Rows) (old new : Work) → Contains roots root → f ≡ first_of flow root.function.0 → IsEntry root.start entry → IsAddition (λ p. p ≡ f) entry old new → AllDerived flow roots old.rows → AllDerived flow roots new.rows
+pub derived-root : (flow : Flow) (roots : List Root) (root : Root) (f : ℕ) (entry : Rows) (old new : Work) →
+    Contains roots root → f ≡ first_of flow root.function.0 → IsEntry root.start entry →
+    IsAddition (λ p. p ≡ f) entry old new → AllDerived flow roots old.rows → AllDerived flow roots new.rows
 derived-root flow roots root f entry old new listed first is add all p a b r = elim (add.only p a b r) [
   | inl o ↦ all p a b o
   | inr x ↦
@@ -29,13 +31,18 @@ derived-root flow roots root f entry old new listed first is add all p a b r = e
       }
 ]
 
-pub entered-root : (flow : Flow) (function : ℕ) (start : State) (f : ℕ) (entry : Rows) (old new : Work) → f ≡ first_of flow function → IsEntry start entry → IsAddition (λ p. p ≡ f) entry old new → HasPair new.rows (first_of flow function) start start
-entered-root flow function start f entry old new first is add = add.added (first_of flow function) (sym first) (state_code start) (state_code start) is.there
+pub entered-root : (flow : Flow) (function : ℕ) (start : State) (f : ℕ) (entry : Rows) (old new : Work) →
+    f ≡ first_of flow function → IsEntry start entry → IsAddition (λ p. p ≡ f) entry old new →
+    HasPair new.rows (first_of flow function) start start
+entered-root flow function start f entry old new first is add =
+    add.added (first_of flow function) (sym first) (state_code start) (state_code start) is.there
 
 -- where each pair's point is listed, nothing is owed
-pub closed-all_listed : (flow : Flow) (old new : Work) → HasNoPairs old.rows → Grows old new → IsClosedBut flow new.listed new.rows
+pub closed-all_listed : (flow : Flow) (old new : Work) → HasNoPairs old.rows → Grows old new →
+    IsClosedBut flow new.listed new.rows
 closed-all_listed flow old new none grows =
-    let listed = λ (p a b : ℕ) (r : Relates (rows_at new.rows p) a b). elim (grows.listed p a b r) as (λ x. IsListed new.listed p) [ inl o ↦ absurd (none p a b o) | inr l ↦ l ] in
+    let listed = λ (p a b : ℕ) (r : Relates (rows_at new.rows p) a b).
+    elim (grows.listed p a b r) as (λ x. IsListed new.listed p) [ inl o ↦ absurd (none p a b o) | inr l ↦ l ] in
     record {
       passed = λ p un. record {
         along_edge = λ a b r is k edge has. absurd (un (listed p a b r));

@@ -37,20 +37,25 @@ pub record IsOneMore (old new : Rows) (from to : ℕ) : Type 0 where
 
 -- the states below n
 pub record StepSoFar (op : Op) (step : Rows) (n : ℕ) : Type 0 where
-  pub leads : (state next : State) → state_code state < n → act op state ≡ Next next → Relates step (state_code state) (state_code next)
-  pub only : (a b : ℕ) → Relates step a b → (state : State) × (next : State) × (state_code state ≡ a) × (state_code next ≡ b) × (act op state ≡ Next next)
+  pub leads : (state next : State) → state_code state < n → act op state ≡ Next next →
+      Relates step (state_code state) (state_code next)
+  pub only : (a b : ℕ) → Relates step a b →
+      (state : State) × (next : State) × (state_code state ≡ a) × (state_code next ≡ b) × (act op state ≡ Next next)
 
 pub StepSoFar-start : (op : Op) (step : Rows) → ((a b : ℕ) → Relates step a b → ⊥) → StepSoFar op step 0
 StepSoFar-start op step none = record { leads = λ state next below. omega arith; only = λ a b r. absurd (none a b r) }
 
-pub StepSoFar-leads : (op : Op) (old new : Rows) (state next : State) → act op state ≡ Next next → StepSoFar op old (state_code state) → IsOneMore old new (state_code state) (state_code next) → StepSoFar op new (state_code state + 1)
+pub StepSoFar-leads : (op : Op) (old new : Rows) (state next : State) → act op state ≡ Next next →
+    StepSoFar op old (state_code state) → IsOneMore old new (state_code state) (state_code next) →
+    StepSoFar op new (state_code state + 1)
 StepSoFar-leads op old new state next acts s more = record {
   leads = λ t u below e. elim (cases_eq (state_code t) (state_code state)) [
     | inl same ↦
         let is : t ≡ state = state_code-one t state same in
         let results : Next u ≡ Next next = sym e ∙ (ap (act op) is ∙ acts) in
         let next_is : u ≡ next = cc in
-        subst (λ x. Relates new (state_code t) (state_code x)) (sym next_is) (subst (λ x. Relates new x (state_code next)) (sym same) more.there)
+        subst (λ x. Relates new (state_code t) (state_code x)) (sym next_is)
+        (subst (λ x. Relates new x (state_code next)) (sym same) more.there)
     | inr other ↦ more.kept (state_code t) (state_code u) (s.leads t u (omega (arith, below, other)) e)
   ];
   only = λ a b r. elim (more.only a b r) [
@@ -59,7 +64,8 @@ StepSoFar-leads op old new state next acts s more = record {
   ];
 }
 
-pub StepSoFar-stays : (op : Op) (step : Rows) (state : State) → ((next : State) → act op state ≡ Next next → ⊥) → StepSoFar op step (state_code state) → StepSoFar op step (state_code state + 1)
+pub StepSoFar-stays : (op : Op) (step : Rows) (state : State) → ((next : State) → act op state ≡ Next next → ⊥) →
+    StepSoFar op step (state_code state) → StepSoFar op step (state_code state + 1)
 StepSoFar-stays op step state stops s = record {
   leads = λ t u below e. elim (cases_eq (state_code t) (state_code state)) [
     | inl same ↦ absurd (stops u (ap (act op) (sym (state_code-one t state same)) ∙ e))
@@ -69,7 +75,8 @@ StepSoFar-stays op step state stops s = record {
 }
 
 pub IsStep-from_all : (op : Op) (step : Rows) (n : ℕ) → 16 ≤ n → StepSoFar op step n → IsStep op step
-IsStep-from_all op step n all s = record { leads = λ state next e. s.leads state next (omega (arith, all, state_code-below state)) e; only = s.only }
+IsStep-from_all op step n all s =
+    record { leads = λ state next e. s.leads state next (omega (arith, all, state_code-below state)) e; only = s.only }
 
 -- the numbers below n
 pub record EntriesSoFar (rows entries : Rows) (n : ℕ) : Type 0 where
@@ -79,7 +86,8 @@ pub record EntriesSoFar (rows entries : Rows) (n : ℕ) : Type 0 where
 pub EntriesSoFar-start : (rows entries : Rows) → ((a b : ℕ) → Relates entries a b → ⊥) → EntriesSoFar rows entries 0
 EntriesSoFar-start rows entries none = record { each = λ a b below. omega arith; only = λ b d r. absurd (none b d r) }
 
-pub EntriesSoFar-reached : (rows old new : Rows) (n : ℕ) → ((a : ℕ) × Relates rows a n) → EntriesSoFar rows old n → IsOneMore old new n n → EntriesSoFar rows new (n + 1)
+pub EntriesSoFar-reached : (rows old new : Rows) (n : ℕ) → ((a : ℕ) × Relates rows a n) → EntriesSoFar rows old n →
+    IsOneMore old new n n → EntriesSoFar rows new (n + 1)
 EntriesSoFar-reached rows old new n from s more = record {
   each = λ a b below r. elim (cases_eq b n) [
     | inl same ↦ subst (λ x. Relates new x x) (sym same) more.there
@@ -91,7 +99,8 @@ EntriesSoFar-reached rows old new n from s more = record {
   ];
 }
 
-pub EntriesSoFar-left : (rows entries : Rows) (n : ℕ) → ((a : ℕ) → Relates rows a n → ⊥) → EntriesSoFar rows entries n → EntriesSoFar rows entries (n + 1)
+pub EntriesSoFar-left : (rows entries : Rows) (n : ℕ) → ((a : ℕ) → Relates rows a n → ⊥) → EntriesSoFar rows entries n →
+    EntriesSoFar rows entries (n + 1)
 EntriesSoFar-left rows entries n none s = record {
   each = λ a b below r. elim (cases_eq b n) [
     | inl same ↦ absurd (none a (subst (λ x. Relates rows a x) same r))
@@ -101,4 +110,5 @@ EntriesSoFar-left rows entries n none s = record {
 }
 
 pub AreEntries-from_all : (rows entries : Rows) (n : ℕ) → 16 ≤ n → EntriesSoFar rows entries n → AreEntries rows entries
-AreEntries-from_all rows entries n all s = record { each = λ a b r. s.each a b (omega (arith, all, r.to_below)) r; only = s.only }
+AreEntries-from_all rows entries n all s =
+    record { each = λ a b r. s.each a b (omega (arith, all, r.to_below)) r; only = s.only }

@@ -19,7 +19,8 @@ pub rows_at_past : (table : List Rows) (p : ℕ) → length table ≤ p → rows
 unfolding rows_at
 rows_at_past table p past = get_or_past table p no_rows past
 
-pub HasNoPairs-from_places : (table : List Rows) → ((p a b : ℕ) → p < length table → Relates (rows_at table p) a b → ⊥) → HasNoPairs table
+pub HasNoPairs-from_places : (table : List Rows) →
+    ((p a b : ℕ) → p < length table → Relates (rows_at table p) a b → ⊥) → HasNoPairs table
 HasNoPairs-from_places table none p a b r = elim (cases_lt p (length table)) [
   | inl below ↦ none p a b below r
   | inr past ↦ no_rows-none a b (subst (λ rows. Relates rows a b) (rows_at_past table p past) r)
@@ -34,9 +35,12 @@ unfolding rows_at
 rows_at-replicate n p rows below = get_or-replicate n p rows no_rows below
 
 -- one more relation is cleared
-pub cleared_more : (table : List Rows) (i : ℕ) (none : Rows) → i < length table → ((a b : ℕ) → Relates none a b → ⊥) → ((p a b : ℕ) → p < i → Relates (rows_at table p) a b → ⊥) → (p a b : ℕ) → p < i + 1 → Relates (rows_at (set table i none) p) a b → ⊥
+pub cleared_more : (table : List Rows) (i : ℕ) (none : Rows) → i < length table → ((a b : ℕ) → Relates none a b → ⊥) →
+    ((p a b : ℕ) → p < i → Relates (rows_at table p) a b → ⊥) → (p a b : ℕ) → p < i + 1 →
+    Relates (rows_at (set table i none) p) a b → ⊥
 cleared_more table i none within empty before p a b below r = elim (cases_eq p i) [
-  | inl same ↦ empty a b (subst (λ rows. Relates rows a b) (ap (rows_at (set table i none)) same ∙ rows_at-set_same table i none within) r)
-  | inr ne ↦ before p a b (omega (arith, below, ne)) (subst (λ rows. Relates rows a b) (rows_at-set_other table i p none ne) r)
+  | inl same ↦ empty a b
+      (subst (λ rows. Relates rows a b) (ap (rows_at (set table i none)) same ∙ rows_at-set_same table i none within) r)
+  | inr ne ↦ before p a b (omega (arith, below, ne))
+      (subst (λ rows. Relates rows a b) (rows_at-set_other table i p none ne) r)
 ]
-

@@ -52,7 +52,8 @@ pub record RaisesIn (op : Op) (rows : Rows) (number : ℕ) (kind : Kind) : Type 
 pub record AddsAlarms (op : Op) (rows : Rows) (point : ℕ) (old new : List AlarmAt) : Type 0 where
   pub kept : (alarm : AlarmAt) → Contains old alarm → Contains new alarm
   pub added : (alarm : AlarmAt) → alarm.point.0 ≡ point → Raises op rows alarm → Contains new alarm
-  pub only : (alarm : AlarmAt) → Contains new alarm → Contains old alarm ⊎ ((alarm.point.0 ≡ point) × Raises op rows alarm)
+  pub only : (alarm : AlarmAt) → Contains new alarm →
+      Contains old alarm ⊎ ((alarm.point.0 ≡ point) × Raises op rows alarm)
 
 -- the same alarms, in order, each once
 pub record IsInOrder (flow : Flow) (old new : List AlarmAt) : Type 0 where

@@ -12,6 +12,6 @@ IsTarget targets function = (target : FnId) × Contains targets target × (targe
 pub record AddsCaller (point : PointId) (targets : List FnId) (old new : List (List PointId)) : Type 0 where
   pub functions : length new ≡ length old
   pub exactly :
-    (function : ℕ) (call : PointId) →
-    Contains (callers_at new function) call ↔
-    (Contains (callers_at old function) call ⊎ ((call ≡ point) × IsTarget targets function))
+      (function : ℕ) (call : PointId) →
+      Contains (callers_at new function) call ↔
+      (Contains (callers_at old function) call ⊎ ((call ≡ point) × IsTarget targets function))

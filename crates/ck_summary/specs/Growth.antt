@@ -42,8 +42,8 @@ Keeps old new = (point a b : ℕ) → Relates (rows_at old point) a b → Relate
 pub record Grows (old new : Work) : Type 0 where
   pub kept : Keeps old.rows new.rows
   pub listed :
-    (point a b : ℕ) → Relates (rows_at new.rows point) a b →
-    Relates (rows_at old.rows point) a b ⊎ IsListed new.listed point
+      (point a b : ℕ) → Relates (rows_at new.rows point) a b →
+      Relates (rows_at old.rows point) a b ⊎ IsListed new.listed point
   pub stays : (point : ℕ) → IsListed old.listed point → IsListed new.listed point
   pub room : table_room new.rows + new.listed.count ≤ table_room old.rows + old.listed.count
   pub size : size_of new.listed ≡ size_of old.listed
@@ -54,8 +54,8 @@ pub record IsAddition (at : ℕ → Type 0) (given : Rows) (old new : Work) : Ty
   pub grows : Grows old new
   pub added : (point : ℕ) → at point → (a b : ℕ) → Relates given a b → Relates (rows_at new.rows point) a b
   pub only :
-    (point a b : ℕ) → Relates (rows_at new.rows point) a b →
-    Relates (rows_at old.rows point) a b ⊎ (at point × Relates given a b)
+      (point a b : ℕ) → Relates (rows_at new.rows point) a b →
+      Relates (rows_at old.rows point) a b ⊎ (at point × Relates given a b)
 
 -- one of the first n edges leads to this point
 pub record LeadsTo (edges : List Edge) (n : ℕ) (point : ℕ) : Type 0 where
@@ -78,7 +78,7 @@ pub record AreEntries (rows entries : Rows) : Type 0 where
 -- where an op leads from each state
 pub record IsStep (op : Op) (step : Rows) : Type 0 where
   pub leads :
-    (state next : State) → act op state ≡ Next next → Relates step (state_code state) (state_code next)
+      (state next : State) → act op state ≡ Next next → Relates step (state_code state) (state_code next)
   pub only :
-    (a b : ℕ) → Relates step a b →
-    (state : State) × (next : State) × (state_code state ≡ a) × (state_code next ≡ b) × (act op state ≡ Next next)
+      (a b : ℕ) → Relates step a b →
+      (state : State) × (next : State) × (state_code state ≡ a) × (state_code next ≡ b) × (act op state ≡ Next next)

@@ -29,18 +29,18 @@ pub record DerivedCodes (flow : Flow) (roots : List Root) (point a b : ℕ) : Ty
 abbrev pub AllDerived : Flow → List Root → List Rows → Type 0
 AllDerived flow roots table = (point a b : ℕ) → Relates (rows_at table point) a b → DerivedCodes flow roots point a b
 
--- what a point had in the old table it has passed on in the new one: along its edges, by its act, and into the functions
--- that it may enter
+-- what a point had in the old table it has passed on in the new one: along its edges, by its act, and into the
+-- functions that it may enter
 pub record IsPassedOn (flow : Flow) (old new : List Rows) (p : ℕ) : Type 0 where
   pub along_edge :
-    (a b : ℕ) → Relates (rows_at old p) a b → kind_at flow p ≡ Plain →
-    (k : ℕ) (edge : Edge) → HasEdge flow p k edge → Relates (rows_at new edge.to.0) a b
+      (a b : ℕ) → Relates (rows_at old p) a b → kind_at flow p ≡ Plain →
+      (k : ℕ) (edge : Edge) → HasEdge flow p k edge → Relates (rows_at new edge.to.0) a b
   pub by_act :
-    (a : ℕ) (j next : State) → Relates (rows_at old p) a (state_code j) → Leads flow p j next →
-    (edge : Edge) → HasEdge flow p 0 edge → Relates (rows_at new edge.to.0) a (state_code next)
+      (a : ℕ) (j next : State) → Relates (rows_at old p) a (state_code j) → Leads flow p j next →
+      (edge : Edge) → HasEdge flow p 0 edge → Relates (rows_at new edge.to.0) a (state_code next)
   pub into_call :
-    (a b : ℕ) → Relates (rows_at old p) a b →
-    (target : ℕ) → MayEnter flow p target → Relates (rows_at new (first_of flow target)) b b
+      (a b : ℕ) → Relates (rows_at old p) a b →
+      (target : ℕ) → MayEnter flow p target → Relates (rows_at new (first_of flow target)) b b
 
 -- what a function's exit had in the old table is returned in the new one to a call of the function
 abbrev pub IsReturned : Flow → List Rows → List Rows → ℕ → ℕ → Type 0
@@ -52,11 +52,11 @@ IsReturned flow old new call function =
 pub record IsLookedAt (flow : Flow) (old new : List Rows) (p : ℕ) : Type 0 where
   pub passed : IsPassedOn flow old new p
   pub returned :
-    (q target : ℕ) → MayEnter flow q target → (q ≡ p) ⊎ (exit_of flow target ≡ p) → IsReturned flow old new q target
+      (q target : ℕ) → MayEnter flow q target → (q ≡ p) ⊎ (exit_of flow target ≡ p) → IsReturned flow old new q target
 
 -- the table is closed but for what listed points have
 pub record IsClosedBut (flow : Flow) (listed : Listing) (table : List Rows) : Type 0 where
   pub passed : (p : ℕ) → (IsListed listed p → ⊥) → IsPassedOn flow table table p
   pub returned :
-    (q target : ℕ) → MayEnter flow q target → (IsListed listed q → ⊥) →
-    (IsListed listed (exit_of flow target) → ⊥) → IsReturned flow table table q target
+      (q target : ℕ) → MayEnter flow q target → (IsListed listed q → ⊥) →
+      (IsListed listed (exit_of flow target) → ⊥) → IsReturned flow table table q target

@@ -32,8 +32,8 @@ lists_of callers = map items_of callers
 pub record AreCallers (flow : Flow) (callers : List (List PointId)) : Type 0 where
   pub functions : length callers ≡ function_count flow
   pub exactly :
-    (function : ℕ) → function < function_count flow →
-    (call : PointId) → Contains (callers_at callers function) call ↔ MayEnter flow call.0 function
+      (function : ℕ) → function < function_count flow →
+      (call : PointId) → Contains (callers_at callers function) call ↔ MayEnter flow call.0 function
 
 -- the table was made for this graph
 pub record IsMadeFor (flow : Flow) (table : Summaries) : Type 0 where
@@ -63,4 +63,5 @@ pub record ReachesCodes (flow : Flow) (roots : List Root) (point a b : ℕ) : Ty
 -- the table has a pair exactly where a walk reaches it
 pub record IsSolution (flow : Flow) (roots : List Root) (table : List Rows) : Type 0 where
   pub whole : length table ≡ point_count flow
-  pub exactly : (point a b : ℕ) → point < point_count flow → Relates (rows_at table point) a b ↔ ReachesCodes flow roots point a b
+  pub exactly : (point a b : ℕ) → point < point_count flow →
+      Relates (rows_at table point) a b ↔ ReachesCodes flow roots point a b

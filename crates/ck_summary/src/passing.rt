@@ -113,7 +113,13 @@ fn pass_target(
 
 /// Returns what a function's exit has to a call of it: each state there to the caller's entry states
 /// from which it comes.
-fn return_to(graph: &Graph, table: &mut [Rows], listed: &mut Worklist, caller: PointId, function: FnId)
+fn return_to(
+    graph: &Graph,
+    table: &mut [Rows],
+    listed: &mut Worklist,
+    caller: PointId,
+    function: FnId,
+)
     requires sound { IsSound graph.now }
     requires call { MayEnter graph.now caller.0 function.0 }
     requires work { IsWorkFor graph.now (work table.old listed.old) }

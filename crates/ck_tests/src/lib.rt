@@ -1,34 +1,13 @@
-//! The tests of all crates, as tables, over public calls alone: the worked rows of the report, what fails
-//! at each call, texts and their tokens, graphs, settings files, and each public call once with ample
-//! memory.
+//! The tests of the one call of the program over folders and sinks that fail on demand: what fails at each
+//! call, sinks without room, words that are no command, and the greatest file. Projects whose files say
+//! all are in projects/, and tools/own_checks.sh runs the built program on them.
 //!
-//! Expected values come from docs/STATES.md, docs/KERNEL.md, docs/TOKENS.md, docs/SETTINGS.md and
-//! docs/REPORT.md, worked out by hand.
+//! Expected values come from docs/REPORT.md, worked out by hand.
 #![tactic(auto)]
 
 #[cfg(test)]
-mod builders;
+mod calls;
 #[cfg(test)]
-mod faults;
+mod outside;
 #[cfg(test)]
-mod faults_of_graphs;
-#[cfg(test)]
-mod graphs;
-#[cfg(test)]
-mod kernel;
-#[cfg(test)]
-mod lexer;
-#[cfg(test)]
-mod project;
-#[cfg(test)]
-mod reports;
-#[cfg(test)]
-mod settings;
-#[cfg(test)]
-mod settings_faults;
-#[cfg(test)]
-mod summaries;
-#[cfg(test)]
-mod surface;
-#[cfg(test)]
-mod trees;
+mod sizes;

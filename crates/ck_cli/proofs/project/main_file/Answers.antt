@@ -1,7 +1,8 @@
 use Rattle.std.proofs.Common.{◌≡◌, Err, map, string_bytes, sym, ap, subst, arith, true, false}
 use Rattle.ck_io.specs.Environment.{HasName, HasBytes, IsTooLong}
-use Rattle.ck_cli.specs.Answer.{HasJustMain, main_name}
-use Rattle.ck_cli.specs.Verdict.{most_bytes}
+use Rattle.ck_cli.specs.Answer.{HasJustMain}
+use Rattle.ck_cli.specs.Placed.{main_name}
+use Rattle.ck_lexer.specs.Bytes.{most_bytes}
 use Rattle.ck_cli.proofs.ProjectLemmas.{missing, has_main, read_as, too_large_as}
 use Rattle.ck_cli.proofs.project.main_file.Goals as goal
 
@@ -32,6 +33,7 @@ pub returns-in-Err-TooLong-clause-found : goal.returns-in-Err-TooLong-clause-fou
 returns-in-Err-TooLong-clause-found g c =
     let just = subst (λ xs. HasJustMain (map string_bytes xs)) c.deref.ensures.value
     (c.has_just_main.ensures.0 c.if-not-has_just_main.false) in
-    too_large_as (g.F.Folder.told c.args.folder.now) (map string_bytes c.in_ok-names.names.items) c.in_ok-names.ensures.named just
+    too_large_as (g.F.Folder.told c.args.folder.now) (map string_bytes c.in_ok-names.names.items)
+    c.in_ok-names.ensures.named just
     (subst (λ t. IsTooLong t main_name most_bytes) c.in_ok-names.ensures.kept (c.in-Err-TooLong.ensures.too_long
     (ap Err c.in-Err-TooLong.field-0-is)))

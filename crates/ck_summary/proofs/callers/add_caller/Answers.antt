@@ -13,8 +13,11 @@ loop-target-preserved c =
     let targets = c.args.targets.now in
     let n = c.loop-target.target-index in
     let none : FnId = record { 0 = 0 } in
-    added-pushed c.args.point targets (lists_of c.args.callers.now.items) c.loop-target.callers.items n _ c.index_mut.result.now c.push.new.self
-    (slice_get-get_or targets n none c.loop-target-test.true) (c.requires n none c.loop-target-test.true) c.loop-target.invariant c.index_mut.ensures.value c.in_ok-push.ensures.items
+    added-pushed c.args.point targets (lists_of c.args.callers.now.items) c.loop-target.callers.items n _
+    c.index_mut.result.now c.push.new.self
+    (slice_get-get_or targets n none c.loop-target-test.true) (c.requires n none c.loop-target-test.true)
+    c.loop-target.invariant c.index_mut.ensures.value c.in_ok-push.ensures.items
 
 pub returns : goal.returns
-returns c = adds-from_all c.args.point c.args.targets.now (lists_of c.args.callers.now.items) (lists_of c.loop-target.callers.items) c.loop-target.target-index c.loop-target-test.false c.loop-target.invariant
+returns c = adds-from_all c.args.point c.args.targets.now (lists_of c.args.callers.now.items)
+    (lists_of c.loop-target.callers.items) c.loop-target.target-index c.loop-target-test.false c.loop-target.invariant

@@ -14,8 +14,10 @@ functions-init c = record {
 
 pub functions-preserved : goal.functions-preserved
 functions-preserved c = record {
-  length = length-pushed c.functions.callers.items c.push.new.self.items _ c.in_ok-push.ensures.items ∙ ap (λ n. n + 1) c.functions.invariant.length;
-  none = none-pushed c.functions.callers.items c.push.new.self.items _ c.in_ok-push.ensures.items c.new.ensures.items c.functions.invariant.none;
+  length = length-pushed c.functions.callers.items c.push.new.self.items _ c.in_ok-push.ensures.items ∙
+      ap (λ n. n + 1) c.functions.invariant.length;
+  none = none-pushed c.functions.callers.items c.push.new.self.items _ c.in_ok-push.ensures.items c.new.ensures.items
+      c.functions.invariant.none;
 }
 
 pub returns-clause-length : goal.returns-clause-length

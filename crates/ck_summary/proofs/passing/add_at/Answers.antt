@@ -15,9 +15,16 @@ returns-then-union_into c =
       room_left = c.union_into.ensures.room;
       less_left = c.union_into.ensures.less_room;
     } in
-    IsAddition-new c.args.table.now c.args.listed.now c.put.new.self i c.args.given.now c.union_into.new.into c.requires.point
+    IsAddition-new c.args.table.now c.args.listed.now c.put.new.self i c.args.given.now c.union_into.new.into
+    c.requires.point
     (subst (IsUnion (rows_at c.args.table.now i) c.args.given.now c.union_into.new.into) c.if-union_into.true u)
-    (record { there = c.put.ensures.there; kept = c.put.ensures.kept; count = c.put.ensures.count; size = c.put.ensures.size })
+    (record {
+      there = c.put.ensures.there;
+      kept = c.put.ensures.kept;
+      count = c.put.ensures.count;
+      size =
+          c.put.ensures.size;
+    })
 
 pub returns-else-union_into : goal.returns-else-union_into
 unfolding rows_at

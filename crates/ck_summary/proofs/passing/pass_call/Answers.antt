@@ -21,7 +21,9 @@ loop-target-init c = record {
 
 pub pass_target-requires-clause-target : goal.pass_target-requires-clause-target
 pass_target-requires-clause-target c =
-    MayEnter-from_place c.args.graph.now c.args.point.0 c.targets-targets.result.now c.loop-target.target-index _ c.requires.call c.targets-targets.ensures (slice_get-get_or c.targets-targets.result.now c.loop-target.target-index _ c.loop-target-test.true)
+    MayEnter-from_place c.args.graph.now c.args.point.0 c.targets-targets.result.now c.loop-target.target-index _
+    c.requires.call c.targets-targets.ensures
+    (slice_get-get_or c.targets-targets.result.now c.loop-target.target-index _ c.loop-target-test.true)
 
 pub pass_target-requires-clause-entries : goal.pass_target-requires-clause-entries
 unfolding rows_at
@@ -30,7 +32,9 @@ pass_target-requires-clause-entries c = λ b d r.
     (e.0, (e.1.0, c.loop-target.invariant.growth.grows.kept c.args.point.0 e.1.0 d e.1.1))
 
 pub pass_target-requires-clause-work : goal.pass_target-requires-clause-work
-pass_target-requires-clause-work c = IsWorkFor-after c.args.graph.now (work c.args.table.now c.args.listed.now) (work c.loop-target.table c.loop-target.listed) c.loop-target.invariant.growth.grows c.requires.work
+pass_target-requires-clause-work c =
+    IsWorkFor-after c.args.graph.now (work c.args.table.now c.args.listed.now)
+    (work c.loop-target.table c.loop-target.listed) c.loop-target.invariant.growth.grows c.requires.work
 
 pub loop-target-preserved : goal.loop-target-preserved
 loop-target-preserved c =
@@ -46,21 +50,31 @@ loop-target-preserved c =
     let then = c.pass_target.ensures.growth in
     let there = slice_get-get_or targets n _ c.loop-target-test.true in
     record {
-      growth = IsGrowth-then flow (work old c.args.listed.now) (work mid c.loop-target.listed) (work new c.pass_target.new.listed) first then;
-      entered = below-more targets n _ (λ (t : FnId). (a b : ℕ) → Relates entries a b → Relates (rows_at mid (first_of flow t.0)) a b) (λ (t : FnId). (a b : ℕ) → Relates entries a b → Relates (rows_at new (first_of flow t.0)) a b) there
-          (λ t before a b r. then.grows.kept (first_of flow t.0) a b (before a b r)) c.pass_target.ensures.entered c.loop-target.invariant.entered;
-      returned = below-more targets n _ (λ (t : FnId). IsReturned flow old mid p t.0) (λ (t : FnId). IsReturned flow old new p t.0) there
+      growth = IsGrowth-then flow (work old c.args.listed.now) (work mid c.loop-target.listed)
+          (work new c.pass_target.new.listed) first then;
+      entered = below-more targets n _
+          (λ (t : FnId). (a b : ℕ) → Relates entries a b → Relates (rows_at mid (first_of flow t.0)) a b)
+          (λ (t : FnId). (a b : ℕ) → Relates entries a b → Relates (rows_at new (first_of flow t.0)) a b) there
+          (λ t before a b r. then.grows.kept (first_of flow t.0) a b (before a b r)) c.pass_target.ensures.entered
+          c.loop-target.invariant.entered;
+      returned = below-more targets n _ (λ (t : FnId). IsReturned flow old mid p t.0)
+          (λ (t : FnId). IsReturned flow old new p t.0) there
           (λ t before. returned-between flow old mid old new p t.0 (λ a b r. r) (λ a b r. r) then.grows.kept before)
-          (returned-between flow mid new old new p _ (first.grows.kept p) (first.grows.kept _) (λ q a b r. r) c.pass_target.ensures.returned) c.loop-target.invariant.returned;
+          (returned-between flow mid new old new p _ (first.grows.kept p) (first.grows.kept _) (λ q a b r. r)
+          c.pass_target.ensures.returned) c.loop-target.invariant.returned;
     }
 
 pub returns-clause-entered : goal.returns-clause-entered
 unfolding rows_at
 returns-clause-entered c = λ target may a b r.
-    below-entered c.args.graph.now c.args.point.0 c.targets-targets.result.now c.loop-target.target-index (λ t. (a b : ℕ) → Relates c.entries_of-entries.result a b → Relates (rows_at c.loop-target.table (first_of c.args.graph.now t)) a b)
-    c.targets-targets.ensures c.loop-target-test.false c.loop-target.invariant.entered target may b b (c.entries_of-entries.ensures.each a b r)
+    below-entered c.args.graph.now c.args.point.0 c.targets-targets.result.now c.loop-target.target-index
+    (λ t. (a b : ℕ) → Relates c.entries_of-entries.result a b →
+    Relates (rows_at c.loop-target.table (first_of c.args.graph.now t)) a b)
+    c.targets-targets.ensures c.loop-target-test.false c.loop-target.invariant.entered target may b b
+    (c.entries_of-entries.ensures.each a b r)
 
 pub returns-clause-returned : goal.returns-clause-returned
 returns-clause-returned c = λ target may.
-    below-entered c.args.graph.now c.args.point.0 c.targets-targets.result.now c.loop-target.target-index (IsReturned c.args.graph.now c.args.table.now c.loop-target.table c.args.point.0)
+    below-entered c.args.graph.now c.args.point.0 c.targets-targets.result.now c.loop-target.target-index
+    (IsReturned c.args.graph.now c.args.table.now c.loop-target.table c.args.point.0)
     c.targets-targets.ensures c.loop-target-test.false c.loop-target.invariant.returned target may

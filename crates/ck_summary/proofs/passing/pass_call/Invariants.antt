@@ -12,6 +12,7 @@ use Rattle.ck_summary.proofs.passing.pass_call.Given as goal
 abbrev pub invariant-loop-target : goal.invariant-loop-target
 invariant-loop-target l = record {
   growth : IsGrowth l.graph (work l.initial.table l.initial.listed) (work l.table l.listed);
-  entered : Below l.targets l.target-index (λ (t : FnId). (a b : ℕ) → Relates l.entries a b → Relates (rows_at l.table (first_of l.graph t.0)) a b);
+  entered : Below l.targets l.target-index
+      (λ (t : FnId). (a b : ℕ) → Relates l.entries a b → Relates (rows_at l.table (first_of l.graph t.0)) a b);
   returned : Below l.targets l.target-index (λ (t : FnId). IsReturned l.graph l.initial.table l.table l.point.0 t.0);
 }

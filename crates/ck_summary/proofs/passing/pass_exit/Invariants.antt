@@ -8,5 +8,6 @@ use Rattle.ck_summary.proofs.passing.pass_exit.Given as goal
 abbrev pub invariant-loop-call : goal.invariant-loop-call
 invariant-loop-call l = record {
   growth : IsGrowth l.graph (work l.initial.table l.initial.listed) (work l.table l.listed);
-  returned : Below l.calls l.call-index (λ (call : PointId). IsReturned l.graph l.initial.table l.table call.0 l.function.0);
+  returned : Below l.calls l.call-index
+      (λ (call : PointId). IsReturned l.graph l.initial.table l.table call.0 l.function.0);
 }

@@ -20,7 +20,14 @@ loop-root-init c = record {
 }
 
 pub add_at-requires-clause-size : goal.add_at-requires-clause-size
-add_at-requires-clause-size c = omega (arith, c.loop-root.invariant.grows.size, c.loop-root.invariant.grows.length, c.requires.work.rows, c.requires.work.size)
+add_at-requires-clause-size c =
+    omega (
+      arith,
+      c.loop-root.invariant.grows.size,
+      c.loop-root.invariant.grows.length,
+      c.requires.work.rows,
+      c.requires.work.size,
+    )
 
 pub loop-root-preserved : goal.loop-root-preserved
 loop-root-preserved c =
@@ -31,14 +38,23 @@ loop-root-preserved c =
     let new = work c.add_at.new.table c.add_at.new.listed in
     let first_is = ap (λ (p : PointId). p.0) c.first.ensures in
     record {
-      derived = derived-root flow roots _ c.first.result.0 c.entry_of-entry.result old new (Contains-get_or roots n _ c.loop-root-test.true) first_is c.entry_of-entry.ensures c.add_at.ensures c.loop-root.invariant.derived;
-      entered = below-more roots n _ (λ (root : Root). HasPair c.loop-root.table (first_of flow root.function.0) root.start root.start) (λ (root : Root). HasPair c.add_at.new.table (first_of flow root.function.0) root.start root.start)
+      derived = derived-root flow roots _ c.first.result.0 c.entry_of-entry.result old new
+          (Contains-get_or roots n _ c.loop-root-test.true) first_is c.entry_of-entry.ensures c.add_at.ensures
+          c.loop-root.invariant.derived;
+      entered = below-more roots n _
+          (λ (root : Root). HasPair c.loop-root.table (first_of flow root.function.0) root.start root.start)
+          (λ (root : Root). HasPair c.add_at.new.table (first_of flow root.function.0) root.start root.start)
           (slice_get-get_or roots n _ c.loop-root-test.true)
-          (λ root before. c.add_at.ensures.grows.kept (first_of flow root.function.0) (state_code root.start) (state_code root.start) before)
-          (entered-root flow _ _ c.first.result.0 c.entry_of-entry.result old new first_is c.entry_of-entry.ensures c.add_at.ensures) c.loop-root.invariant.entered;
-      grows = Grows-then (work c.args.table.now c.args.listed.now) old new c.loop-root.invariant.grows c.add_at.ensures.grows;
+          (λ root before. c.add_at.ensures.grows.kept (first_of flow root.function.0) (state_code root.start)
+          (state_code root.start) before)
+          (entered-root flow _ _ c.first.result.0 c.entry_of-entry.result old new first_is c.entry_of-entry.ensures
+          c.add_at.ensures) c.loop-root.invariant.entered;
+      grows = Grows-then (work c.args.table.now c.args.listed.now) old new c.loop-root.invariant.grows
+          c.add_at.ensures.grows;
     }
 
 pub returns-clause-entered : goal.returns-clause-entered
 returns-clause-entered c = λ root listed.
-    below-contains c.args.roots.now c.loop-root.root-index root (λ (root : Root). HasPair c.loop-root.table (first_of c.args.graph.now root.function.0) root.start root.start) c.loop-root-test.false c.loop-root.invariant.entered listed
+    below-contains c.args.roots.now c.loop-root.root-index root
+    (λ (root : Root). HasPair c.loop-root.table (first_of c.args.graph.now root.function.0) root.start root.start)
+    c.loop-root-test.false c.loop-root.invariant.entered listed

@@ -9,6 +9,7 @@ use Rattle.ck_summary.proofs.solving.enter_roots.Given as goal
 abbrev pub invariant-loop-root : goal.invariant-loop-root
 invariant-loop-root l = record {
   derived : AllDerived l.graph l.roots l.table;
-  entered : Below l.roots l.root-index (λ (root : Root). HasPair l.table (first_of l.graph root.function.0) root.start root.start);
+  entered : Below l.roots l.root-index
+      (λ (root : Root). HasPair l.table (first_of l.graph root.function.0) root.start root.start);
   grows : Grows (work l.initial.table l.initial.listed) (work l.table l.listed);
 }

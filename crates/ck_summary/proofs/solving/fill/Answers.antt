@@ -15,7 +15,8 @@ looks-init c =
       derived = c.enter_roots.ensures.derived;
       entered = c.enter_roots.ensures.entered;
       closed = closed-all_listed flow cleared entered c.clear.ensures c.enter_roots.ensures.grows;
-      work = IsWorkFor-after flow cleared entered c.enter_roots.ensures.grows (record { rows = c.clear.auto.table ∙ c.requires.work.rows; size = c.requires.work.size });
+      work = IsWorkFor-after flow cleared entered c.enter_roots.ensures.grows
+          (record { rows = c.clear.auto.table ∙ c.requires.work.rows; size = c.requires.work.size });
     }
 
 pub looks-preserved : goal.looks-preserved
@@ -31,11 +32,13 @@ looks-preserved c =
             | inl t ↦ inl t
             | inr e ↦ inr (let same : q ≡ c.in-Some.number = cc in same)
           ]) grows c.pass_on.ensures.looked c.looks.invariant.closed;
-      work = IsWorkFor-after flow (work c.looks.table c.take.new.self) new grows (record { rows = c.looks.invariant.work.rows; size = c.take.ensures.size ∙ c.looks.invariant.work.size });
+      work = IsWorkFor-after flow (work c.looks.table c.take.new.self) new grows
+          (record { rows = c.looks.invariant.work.rows; size = c.take.ensures.size ∙ c.looks.invariant.work.size });
     }
 
 pub returns-clause-solved : goal.returns-clause-solved
 returns-clause-solved c =
     let invariant = c.looks.invariant in
-    solution c.args.graph.now c.args.roots.now c.looks.listed c.looks.table c.points-points.ensures.sound c.requires.roots invariant.work.rows invariant.derived invariant.entered
+    solution c.args.graph.now c.args.roots.now c.looks.listed c.looks.table c.points-points.ensures.sound
+    c.requires.roots invariant.work.rows invariant.derived invariant.entered
     (λ p l. absurd (omega (arith, l.listed, c.in_default.ensures.taken))) invariant.closed

@@ -9,6 +9,13 @@ numbers-preserved c =
     let rows = c.args.rows.now in
     let to = c.numbers.to in
     elim c.if-is_reached.branch [
-      | then-is_reached w ↦ subst (λ entries. EntriesSoFar rows entries (to + 1)) (sym w.entries-is) (EntriesSoFar-reached rows c.numbers.entries w.add_pair.new.rows to (c.is_reached.ensures.0 w.if-is_reached.true) c.numbers.invariant (record { there = w.add_pair.ensures.there; kept = w.add_pair.ensures.kept; only = w.add_pair.ensures.only }))
-      | else-is_reached w ↦ subst (λ entries. EntriesSoFar rows entries (to + 1)) (sym w.entries-is) (EntriesSoFar-left rows c.numbers.entries to (λ a r. false≢true (w.if-is_reached.ensures.1 (a, r))) c.numbers.invariant)
+      | then-is_reached w ↦
+          subst (λ entries. EntriesSoFar rows entries (to + 1)) (sym w.entries-is)
+          (EntriesSoFar-reached rows c.numbers.entries w.add_pair.new.rows to
+          (c.is_reached.ensures.0 w.if-is_reached.true) c.numbers.invariant
+          (record { there = w.add_pair.ensures.there; kept = w.add_pair.ensures.kept; only = w.add_pair.ensures.only }))
+      | else-is_reached w ↦
+          subst (λ entries. EntriesSoFar rows entries (to + 1)) (sym w.entries-is)
+          (EntriesSoFar-left rows c.numbers.entries to (λ a r. false≢true (w.if-is_reached.ensures.1 (a, r)))
+          c.numbers.invariant)
     ]

@@ -10,4 +10,6 @@ returns c =
     let items = c.self.inside.callers.items in
     let shown = subst (λ t. f < length t.callers) (sym c.self.view_is) c.requires in
     let within : f < length items = omega (arith, shown, length-map items items_of) in
-    c.deref.ensures.value ∙ (callers_at-items items f c.index.result.now within c.index.ensures ∙ ap (λ t. callers_at t.callers f) c.self.view_is)
+    c.deref.ensures.value ∙
+    (callers_at-items items f c.index.result.now within c.index.ensures ∙
+    ap (λ t. callers_at t.callers f) c.self.view_is)

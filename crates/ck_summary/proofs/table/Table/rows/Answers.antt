@@ -10,4 +10,5 @@ returns c =
     let rows : List Rows = c.self.inside.rows.items in
     let point = c.args.point.0 in
     let within : point < length rows = subst (λ t. point < length t.rows) (sym c.self.view_is) c.requires in
-    get_or_read rows point c.index.result.now within c.index.ensures no_rows ∙ ap (λ t. get_or t.rows point no_rows) c.self.view_is
+    get_or_read rows point c.index.result.now within c.index.ensures no_rows ∙
+    ap (λ t. get_or t.rows point no_rows) c.self.view_is

@@ -1,8 +1,0 @@
-use Rattle.std.proofs.Common.{◌<◌}
-use Rattle.std.specs.List.{All}
-use Rattle.ck_graph.specs.declared.entries.Root.{Root}
-use Rattle.ck_graph.specs.Flow.{function_count}
-use Rattle.ck_tests.proofs.graphs.roots_of.Given as goal
-
-abbrev pub invariant-loop-function : goal.invariant-loop-function
-invariant-loop-function l = All (λ (root : Root). root.function.0 < function_count l.graph) l.list.items
