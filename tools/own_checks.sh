@@ -7,7 +7,8 @@
 #   words that are no command, and on an accepted file of a megabyte;
 # - the stub headers, docs/KERNEL.md and the table of kernel calls agree (tools/check_header.sh), and tools/preprocess.sh does
 #   what it says (tools/check_preprocess.sh);
-# - docs/PROMISES.md speaks of what is there (tools/check_promises.sh);
+# - docs/PROMISES.md speaks of what is there (tools/check_promises.sh), no public contract reaches a private definition, and README
+#   says how many lines the program's contract reaches (tools/trusted.sh);
 # - no .rt or .antt file of the repository has more than 800 lines, and no crate of tests more than 60 functions.
 #
 # It takes the program that `rt ci` or `rt run` left, and builds it where there is none or where that one is older than its
@@ -190,6 +191,20 @@ fi
 tools/check_header.sh || failed=$((failed + 1))
 tools/check_preprocess.sh || failed=$((failed + 1))
 tools/check_promises.sh || failed=$((failed + 1))
+
+# no private definition is reached by a public contract, and README says how much the program's contract reaches
+if tools/trusted.sh > "$dir/trusted" 2>&1; then
+  sums=$(tools/trusted.sh ck_cli | awk 'END { print $1 " lines in " $4 " files" }')
+  if grep -q "$sums" README.md; then
+    echo "own check: the program's contract reaches $sums of definitions, as README says"
+  else
+    failed=$((failed + 1))
+    echo "own check: FAILED: the program's contract reaches $sums of definitions, and README says otherwise"
+  fi
+else
+  failed=$((failed + 1))
+  echo "own check: FAILED: $(grep '^trusted' "$dir/trusted")"
+fi
 
 large=$(
   find crates -name out -prune -o -type f \( -name '*.rt' -o -name '*.antt' \) \

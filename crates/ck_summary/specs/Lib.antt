@@ -1,9 +1,10 @@
 -- What is promised
 pub mod Solution
--- Private
+-- From memory to plain values
+pub mod Alarms
 pub mod Listing
+-- Private
 pub mod Passing
 pub mod Growth
 pub mod Callers
-pub mod Alarms
 pub mod Roots
