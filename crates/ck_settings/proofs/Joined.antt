@@ -1,24 +1,36 @@
 -- What is read from the first key on is what the table of keys says: the settings where the document has no fault, and else its
 -- first fault.
-use Rattle.std.proofs.Common.{◌≡◌, ℕ, ◌+◌, Bool, true, false, not, ◌&&◌, List, [], ◌∷◌, ◌++◌, codes, length, map, Option, Some, None, Result, Ok, Err, refl, sym, ap, ◌∙◌, append_assoc, append-nil}
+use Rattle.std.proofs.Common.{◌≡◌, ℕ, ◌+◌, Bool, true, false, not, ◌&&◌, List, [], ◌∷◌, ◌++◌, codes, length, map}
+use Rattle.std.proofs.Common.{Option, Some, None, Result, Ok, Err, refl, sym, ap, ◌∙◌, append_assoc, append-nil}
 use Rattle.std.proofs.lemmas.List.{length-map, map_push}
 use Rattle.std.specs.Prelude.{nat_le, if◌then◌else◌}
 use Rattle.std.specs.List.{list_any}
 use Rattle.std.specs.Option.{option_map_or, is_some}
 use Rattle.std.specs.Str.{is_utf8}
-use Rattle.toml.specs.Data.{Data, Items, Members, no_members, get_member, as_str, as_integer, as_bool, as_array, as_table}
+use Rattle.toml.specs.Data.{Data, Items, Members, no_members, get_member, as_str, as_integer, as_bool, as_array}
+use Rattle.toml.specs.Data.{as_table}
 use Rattle.toml.specs.Parse.{parse_document}
 use Rattle.ck_base.specs.declared.ops.Op.{Op}
 use Rattle.ck_base.specs.declared.ops.Op.TheVariants.{Neutral}
 use Rattle.ck_base.specs.declared.settings_faults.SettingsKind.{SettingsKind}
-use Rattle.ck_base.specs.declared.settings_faults.SettingsKind.TheVariants.{NotToml, Missing, WrongType, OutOfRange, Repeated}
-use Rattle.ck_settings.specs.Keys.{From, FromKernel, Number, Text, OutsideName, ClassWord, WakesOfClass, Needed, Optional, row, has_locked, locked_row, ListRow, vector_list, callback_list, function_list, document_rows}
+use Rattle.ck_base.specs.declared.settings_faults.SettingsKind.TheVariants.{NotToml, Missing, WrongType, OutOfRange}
+use Rattle.ck_base.specs.declared.settings_faults.SettingsKind.TheVariants.{Repeated}
+use Rattle.ck_settings.specs.Keys.{From, FromKernel, Number, Text, OutsideName, ClassWord, WakesOfClass, Needed}
+use Rattle.ck_settings.specs.Keys.{Optional, row, has_locked, locked_row, ListRow, vector_list, callback_list}
+use Rattle.ck_settings.specs.Keys.{function_list, document_rows}
 use Rattle.ck_settings.specs.Classes.{op_of}
-use Rattle.ck_settings.specs.Values.{natural, number_in, text_in, truth_in, data_of, elements_in, number_at, text_at, elements_at, members_in, vector_of, callback_of, function_of, version_of, kernel_priority_of, values_of}
-use Rattle.ck_settings.specs.Faults.{KeyFault, unless, at_most_one, judged, is_within, is_some_text, is_outside_name, is_class, row_faults, rows_faults, unknown_faults, element_key, element_prefix, says_the_same, repetition_faults, table_faults, element_faults, elements_faults, list_type_faults, room_faults, list_faults, key_of, faults_of}
+use Rattle.ck_settings.specs.Values.{natural, number_in, text_in, truth_in, data_of, elements_in, number_at, text_at}
+use Rattle.ck_settings.specs.Values.{elements_at, members_in, vector_of, callback_of, function_of, version_of}
+use Rattle.ck_settings.specs.Values.{kernel_priority_of, values_of}
+use Rattle.ck_settings.specs.Faults.{KeyFault, unless, at_most_one, judged, is_within, is_some_text, is_outside_name}
+use Rattle.ck_settings.specs.Faults.{is_class, row_faults, rows_faults, unknown_faults, element_key, element_prefix}
+use Rattle.ck_settings.specs.Faults.{says_the_same, repetition_faults, table_faults, element_faults, elements_faults}
+use Rattle.ck_settings.specs.Faults.{list_type_faults, room_faults, list_faults, key_of, faults_of}
 use Rattle.ck_settings.specs.Documents.{unless_faulty, not_toml, settings_of, read_members}
 use Rattle.ck_settings.specs.Reading as reading
-use Rattle.ck_settings.specs.Reading.{◌>>=◌, or_fault, require, locked_read, number_read, number_found, truth_found, list_found, text_where, op_read, element, elements, fields_of, has_function, has_member, has_name, only, toml, file, document}
+use Rattle.ck_settings.specs.Reading.{◌>>=◌, or_fault, require, locked_read, number_read, number_found, truth_found}
+use Rattle.ck_settings.specs.Reading.{list_found, text_where, op_read, element, elements, fields_of, has_function}
+use Rattle.ck_settings.specs.Reading.{has_member, has_name, only, toml, file, document}
 use Rattle.ck_settings.proofs.Repeated.{list_any_map}
 
 -- ---- one after another

@@ -1,5 +1,6 @@
 -- The unknown keys of a map whose keys ascend: the first one that is met is the first in byte order.
-use Rattle.std.proofs.Common.{◌≡◌, ℕ, false, cond, List, [], ◌∷◌, map, Bor, String, Global, string_bytes, Less, refl, sym, ap, ◌∙◌, Ok, Err, inl, inr}
+use Rattle.std.proofs.Common.{◌≡◌, ℕ, false, cond, List, [], ◌∷◌, map, Bor, String, Global, string_bytes, Less, refl}
+use Rattle.std.proofs.Common.{sym, ap, ◌∙◌, Ok, Err, inl, inr}
 use Rattle.std.proofs.lemmas.Bool.{cases_Bool}
 use Rattle.std.specs.List.{list_any, AllByRecursion}
 use Rattle.std.specs.List.Sorted.{IsStrictlySortedBy}

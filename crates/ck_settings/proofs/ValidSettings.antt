@@ -1,5 +1,7 @@
 -- Settings of a document without a fault are valid.
-use Rattle.std.proofs.Common.{◌≡◌, ℕ, zero, suc, ◌+◌, ◌≤◌, ◌⊎◌, inl, inr, ◌&&◌, ℤ, pos, negsuc, Bool, true, false, not, cond, List, [], ◌∷◌, ◌++◌, codes, length, map, Option, Some, None, Result, Ok, Err, refl, subst, ◌∙◌, arith}
+use Rattle.std.proofs.Common.{◌≡◌, ℕ, zero, suc, ◌+◌, ◌≤◌, ◌⊎◌, inl, inr, ◌&&◌, ℤ, pos, negsuc, Bool, true, false, not}
+use Rattle.std.proofs.Common.{cond, List, [], ◌∷◌, ◌++◌, codes, length, map, Option, Some, None, Result, Ok, Err, refl}
+use Rattle.std.proofs.Common.{subst, ◌∙◌, arith}
 use Rattle.std.specs.Prelude.{nat_le, IfOk}
 use Rattle.std.proofs.lemmas.Bool.{and_parts, false≢true, leb-true}
 use Rattle.std.proofs.lemmas.List.{length-map, map_push}
@@ -14,12 +16,18 @@ use Rattle.ck_base.specs.declared.settings_faults.SettingsKind.{SettingsKind}
 use Rattle.ck_base.specs.declared.settings_faults.SettingsKind.TheVariants.{Missing, OutOfRange}
 use Rattle.ck_settings.specs.declared.errors.ReadSettingsError.{ReadSettingsError}
 use Rattle.ck_settings.specs.declared.settings.Settings.{Settings}
-use Rattle.ck_settings.specs.Keys.{From, FromKernel, Number, Text, OutsideName, Needed, Optional, row, has_locked, ListRow, vector_list, callback_list, function_list, document_rows}
+use Rattle.ck_settings.specs.Keys.{From, FromKernel, Number, Text, OutsideName, Needed, Optional, row, has_locked}
+use Rattle.ck_settings.specs.Keys.{ListRow, vector_list, callback_list, function_list, document_rows}
 use Rattle.ck_settings.specs.Classes.{op_of}
-use Rattle.ck_settings.specs.Values.{Values, natural, number_in, text_at, truth_at, elements_at, members_in, vector_of, callback_of, function_of, version_of, kernel_priority_of, values_of, settings_view}
-use Rattle.ck_settings.specs.Faults.{KeyFault, unless, at_most_one, judged, is_within, is_some_text, is_outside_name, row_faults, rows_faults, unknown_faults, element_prefix, says_the_same, repetition_faults, table_faults, element_faults, elements_faults, list_type_faults, room_faults, list_faults, key_of, document_rows_faults, faults_of}
+use Rattle.ck_settings.specs.Values.{Values, natural, number_in, text_at, truth_at, elements_at, members_in, vector_of}
+use Rattle.ck_settings.specs.Values.{callback_of, function_of, version_of, kernel_priority_of, values_of, settings_view}
+use Rattle.ck_settings.specs.Faults.{KeyFault, unless, at_most_one, judged, is_within, is_some_text, is_outside_name}
+use Rattle.ck_settings.specs.Faults.{row_faults, rows_faults, unknown_faults, element_prefix, says_the_same}
+use Rattle.ck_settings.specs.Faults.{repetition_faults, table_faults, element_faults, elements_faults, list_type_faults}
+use Rattle.ck_settings.specs.Faults.{room_faults, list_faults, key_of, document_rows_faults, faults_of}
 use Rattle.ck_settings.specs.Documents.{Gives, unless_faulty, not_toml, read_members, settings_of}
-use Rattle.ck_settings.specs.Valid.{is_outside_op, IsVector, IsCallback, IsFunction, same_vector, same_callback, same_function, AllNew, AreValid}
+use Rattle.ck_settings.specs.Valid.{is_outside_op, IsVector, IsCallback, IsFunction, same_vector, same_callback}
+use Rattle.ck_settings.specs.Valid.{same_function, AllNew, AreValid}
 use Rattle.ck_settings.proofs.Joined.{passed, passed_test, and_true, two_and_true, repeats}
 
 -- ---- where there is no fault

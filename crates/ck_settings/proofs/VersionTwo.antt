@@ -1,5 +1,6 @@
 -- The document of version 2 that is printed for settings has no fault, and writes them.
-use Rattle.std.proofs.Common.{◌≡◌, ℕ, ◌+◌, ◌≤◌, pos, Bool, true, false, List, [], ◌∷◌, ◌++◌, length, map, Some, Ok, refl, sym, ap, ◌∙◌, arith}
+use Rattle.std.proofs.Common.{◌≡◌, ℕ, ◌+◌, ◌≤◌, pos, Bool, true, false, List, [], ◌∷◌, ◌++◌, length, map, Some, Ok}
+use Rattle.std.proofs.Common.{refl, sym, ap, ◌∙◌, arith}
 use Rattle.std.specs.Prelude.{nat_le}
 use Rattle.std.specs.List.{list_any, AllByRecursion}
 use Rattle.std.proofs.lemmas.Bool.{le-leb}
@@ -13,11 +14,14 @@ use Rattle.ck_base.specs.declared.ops.Op.{Op}
 use Rattle.ck_base.specs.declared.ops.Op.TheVariants.{IQuiet, IWakes, SPlain, SWakes, Normal, Free, Neutral}
 use Rattle.ck_settings.specs.Keys.{ListRow, vector_list, callback_list, function_list}
 use Rattle.ck_settings.specs.Classes.{op_of}
-use Rattle.ck_settings.specs.Values.{Function, Values, data_of, vector_of, callback_of, function_of, members_in, values_of}
+use Rattle.ck_settings.specs.Values.{Function, Values, data_of, vector_of, callback_of, function_of, members_in}
+use Rattle.ck_settings.specs.Values.{values_of}
 use Rattle.ck_settings.specs.Faults.{is_within, is_class, says_the_same, table_faults, elements_faults, faults_of}
-use Rattle.ck_settings.specs.Documents.{read_members, settings_of}
-use Rattle.ck_settings.specs.Valid.{is_outside_op, IsVector, IsCallback, IsFunction, same_vector, same_callback, same_function, AllNew, AreValid}
-use Rattle.ck_settings.specs.Upgrading.{class_of, wakes_of, vector_members, callback_members, function_members, upgraded_members, upgraded_values}
+use Rattle.ck_settings.specs.Documents.{read_members, settings_of, upgraded_values}
+use Rattle.ck_settings.specs.Valid.{is_outside_op, IsVector, IsCallback, IsFunction, same_vector, same_callback}
+use Rattle.ck_settings.specs.Valid.{same_function, AllNew, AreValid}
+use Rattle.ck_settings.specs.Upgrading.{class_of, wakes_of, vector_members, callback_members, function_members}
+use Rattle.ck_settings.specs.Upgrading.{upgraded_members}
 use Rattle.ck_settings.proofs.Joined.{and_true, two_and_true}
 
 data_of-items : (ds : List Data) → data_of (items_of ds) ≡ ds

@@ -3,7 +3,8 @@ use Rattle.std.proofs.Common.{◌≡◌, [], ◌∷◌, ◌++◌, codes, true, O
 use Rattle.toml.specs.Parse.{parse_document}
 use Rattle.toml.proofs.OnLiterals.{toml_on_literals}
 use Rattle.ck_base.specs.declared.ops.Op.TheVariants.{IWakes}
-use Rattle.ck_base.specs.declared.settings_faults.SettingsKind.TheVariants.{Missing, Unknown, WrongType, OutOfRange, Repeated}
+use Rattle.ck_base.specs.declared.settings_faults.SettingsKind.TheVariants.{Missing, Unknown, WrongType, OutOfRange}
+use Rattle.ck_base.specs.declared.settings_faults.SettingsKind.TheVariants.{Repeated}
 use Rattle.ck_settings.specs.Faults.{element_key, element_prefix}
 use Rattle.ck_settings.specs.Documents.{read_members}
 
