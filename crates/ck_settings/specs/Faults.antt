@@ -149,7 +149,7 @@ element_faults kernel list before None =
     record { key = element_key list.key (length before + 1); kind = WrongType } ∷ []
 element_faults kernel list before (Some ms) = table_faults kernel list before ms
 
--- the faults of elements, which stand after these
+-- the faults of elements, which come after these
 abbrev pub elements_faults : ℕ → ListRow → List Data → List Data → List KeyFault
 elements_faults kernel list before [] = []
 elements_faults kernel list before (d ∷ ds) =
