@@ -1,10 +1,13 @@
-pub mod Elements
-pub mod UnknownKeys
-pub mod Repeated
-pub mod Loops
+-- The theorems: what is read is what the definitions say, it is valid, and it is read again from what is written of it
 pub mod Joined
 pub mod ValidSettings
-pub mod Toml
-pub mod Worked
-pub mod Tables
 pub mod VersionTwo
+-- Bytes, tables and lists
+pub mod Toml
+pub mod Tables
+pub mod UnknownKeys
+pub mod Elements
+pub mod Repeated
+pub mod Loops
+-- Worked documents
+pub mod Worked

@@ -23,7 +23,8 @@ not_text bytes (errors.Fault g) other fault =
       | inr differs ↦ rw differs (ap Err fault)
     ]
 
-pub not_document : (bytes : List ℕ) (e : ReadSettingsError) → IsUtf8 bytes → parse_document bytes ≡ None → IsFault e not_toml → Fails e (toml bytes)
+pub not_document : (bytes : List ℕ) (e : ReadSettingsError) → IsUtf8 bytes → parse_document bytes ≡ None →
+    IsFault e not_toml → Fails e (toml bytes)
 unfolding toml
 not_document bytes errors.Memory text none fault = tt
 not_document bytes (errors.Fault g) text none fault = rw (is_utf8-from_IsUtf8 bytes text, none) (ap Err fault)

@@ -21,7 +21,7 @@ classes =
     class (codes "S") SPlain (Some SWakes) ∷
     class (codes "X") Free None ∷ []
 
--- the op of a word and of what stands for `wakes`, among these classes
+-- the op of a word and of the value of `wakes`, among these classes
 abbrev pub op_among : List Class → List ℕ → Bool → Option Op
 op_among [] word wakes = None
 op_among (c ∷ cs) word wakes =

@@ -1,18 +1,23 @@
--- The faults of a document, in the order in which they are told: its unknown keys in byte order, and then those of each row of
--- the table of keys. docs/SETTINGS.md, "The faults", says the same.
-use Rattle.std.specs.Prelude.{ℕ, ◌+◌, ℤ, pos, negsuc, Bool, true, false, not, ◌&&◌, ◌==◌, nat_le, if◌then◌else◌, List, [], ◌∷◌, ◌++◌, codes, length, map, Option, Some, None, string_bytes}
+-- The faults of a document, in the order in which they are told: its unknown keys in byte order, and then those of each
+-- row of the table of keys. docs/SETTINGS.md, "The faults", says the same.
+use Rattle.std.specs.Prelude.{ℕ, ◌+◌, ℤ, pos, negsuc, Bool, true, false, not, ◌&&◌, ◌==◌, nat_le, if◌then◌else◌, List}
+use Rattle.std.specs.Prelude.{[], ◌∷◌, ◌++◌, codes, length, map, Option, Some, None, string_bytes}
 use Rattle.std.specs.List.{list_any}
 use Rattle.std.specs.Option.{option_map_or, is_some}
 use Rattle.std.specs.Ordering.{nat_cmp, is_lt}
 use Rattle.std.specs.Cmp.Lexicographic.{slice_cmp}
 use Rattle.std.specs.Str.{bytes_eq}
 use Rattle.std.specs.Fmt.{decimal}
-use Rattle.toml.specs.Data.{Data, Members, no_members, member, get_member, as_str, as_integer, as_bool, as_array, as_table}
+use Rattle.toml.specs.Data.{Data, Members, no_members, member, get_member, as_str, as_integer, as_bool, as_array}
+use Rattle.toml.specs.Data.{as_table}
 use Rattle.ck_base.specs.KernelNames.{kernel_name}
 use Rattle.ck_base.specs.declared.settings_faults.SettingsFault.{SettingsFault}
 use Rattle.ck_base.specs.declared.settings_faults.SettingsKind.{SettingsKind}
-use Rattle.ck_base.specs.declared.settings_faults.SettingsKind.TheVariants.{Missing, Unknown, WrongType, OutOfRange, Repeated}
-use Rattle.ck_settings.specs.Keys.{Least, From, FromKernel, Form, Number, Truth, Text, OutsideName, ClassWord, WakesOfClass, Need, Needed, Optional, Row, Room, AnyNumber, Together, ListRow, DocumentRow, Single, Tables, document_rows}
+use Rattle.ck_base.specs.declared.settings_faults.SettingsKind.TheVariants.{Missing, Unknown, WrongType, OutOfRange}
+use Rattle.ck_base.specs.declared.settings_faults.SettingsKind.TheVariants.{Repeated}
+use Rattle.ck_settings.specs.Keys.{Least, From, FromKernel, Form, Number, Truth, Text, OutsideName, ClassWord}
+use Rattle.ck_settings.specs.Keys.{WakesOfClass, Need, Needed, Optional, Row, Room, AnyNumber, Together, ListRow}
+use Rattle.ck_settings.specs.Keys.{DocumentRow, Single, Tables, document_rows}
 use Rattle.ck_settings.specs.Classes.{op_of}
 use Rattle.ck_settings.specs.Values.{version_of, kernel_priority_of, text_at, elements_at, members_in}
 
@@ -140,10 +145,11 @@ table_faults kernel list before ms =
     ++ repetition_faults prefix list.same before ms)
 
 abbrev pub element_faults : ℕ → ListRow → List Data → Option Members → List KeyFault
-element_faults kernel list before None = record { key = element_key list.key (length before + 1); kind = WrongType } ∷ []
+element_faults kernel list before None =
+    record { key = element_key list.key (length before + 1); kind = WrongType } ∷ []
 element_faults kernel list before (Some ms) = table_faults kernel list before ms
 
--- the faults of elements, which stand after these
+-- the faults of elements, which come after these
 abbrev pub elements_faults : ℕ → ListRow → List Data → List Data → List KeyFault
 elements_faults kernel list before [] = []
 elements_faults kernel list before (d ∷ ds) =

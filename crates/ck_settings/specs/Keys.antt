@@ -1,6 +1,14 @@
--- The table of keys: each key of rtcheck.toml, what its value has to be, and whether it is needed. The order of the rows is
--- the order in which faults are told. docs/SETTINGS.md, "The keys", has the same rows.
+-- The table of keys: each key of rtcheck.toml, what its value has to be, and whether it is needed. The order of the rows
+-- is the order in which faults are told. docs/SETTINGS.md, "The keys", has the same rows.
 use Rattle.std.specs.Prelude.{ℕ, ◌==◌, Bool, true, false, List, [], ◌∷◌, codes}
+
+-- the greatest priority of an interrupt
+abbrev pub greatest_priority : ℕ
+greatest_priority = 255
+
+-- how many vectors and callbacks there may be together
+abbrev pub most_handlers : ℕ
+most_handlers = 240
 
 -- from where on a number may be: from this one, or from the document's kernel_priority
 pub data Least : Type 0 where
@@ -31,8 +39,8 @@ pub data Room : Type 0 where
   AnyNumber : Room
   Together : List ℕ → ℕ → Room
 
--- A key with a list of tables. Two elements whose texts at the keys of `same` are the same repeat each other, which is a fault
--- at the last of these keys.
+-- A key with a list of tables. Two elements whose texts at the keys of `same` are the same repeat each other, which is a
+-- fault at the last of these keys.
 pub record ListRow : Type 0 where
   pub key : List ℕ
   pub room : Room
@@ -53,7 +61,7 @@ vector_list = record {
   room = AnyNumber;
   fields =
       row (codes "function") Needed Text ∷
-      row (codes "priority") Needed (Number (From 0) 255) ∷ [];
+      row (codes "priority") Needed (Number (From 0) greatest_priority) ∷ [];
   same = codes "function" ∷ [];
 }
 
@@ -69,11 +77,11 @@ locked_row false = []
 abbrev pub callback_list : Bool → ListRow
 callback_list locked = record {
   key = codes "callback";
-  room = Together (codes "vector") 240;
+  room = Together (codes "vector") most_handlers;
   fields =
       row (codes "struct") Needed Text ∷
       row (codes "member") Needed Text ∷
-      row (codes "priority") Needed (Number FromKernel 255) ∷ locked_row locked;
+      row (codes "priority") Needed (Number FromKernel greatest_priority) ∷ locked_row locked;
   same = codes "struct" ∷ codes "member" ∷ [];
 }
 
@@ -93,8 +101,8 @@ function_list = record {
 abbrev pub document_rows : ℕ → List DocumentRow
 document_rows version =
     Single (row (codes "version") Needed (Number (From 1) 2)) ∷
-    Single (row (codes "kernel_priority") Needed (Number (From 0) 255)) ∷
-    Single (row (codes "timer_priority") Optional (Number FromKernel 255)) ∷
+    Single (row (codes "kernel_priority") Needed (Number (From 0) greatest_priority)) ∷
+    Single (row (codes "timer_priority") Optional (Number FromKernel greatest_priority)) ∷
     Tables vector_list ∷
     Tables (callback_list (has_locked version)) ∷
     Tables function_list ∷ []

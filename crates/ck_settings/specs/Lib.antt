@@ -1,9 +1,12 @@
+-- What is promised: read this first
+pub mod Documents
+pub mod Valid
+-- What it rests on
 pub mod Keys
 pub mod Classes
 pub mod Values
 pub mod Faults
-pub mod Documents
-pub mod Valid
+-- Private: contracts inside the crate alone speak of these
 pub mod Places
 pub mod Reading
 pub mod Upgrading

@@ -1,4 +1,4 @@
--- What stands before the keys of a table of the document, where a fault is told.
+-- The prefix of the keys of a table of the document, where a fault is told.
 use Rattle.std.specs.Prelude.{ℕ, List, []}
 use Rattle.ck_settings.specs.declared.section.Place.{Place}
 use Rattle.ck_settings.specs.declared.section.Place.TheVariants.{Document, Element}

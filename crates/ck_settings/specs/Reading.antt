@@ -1,17 +1,21 @@
--- How a document is read, from its first key on. Private contracts alone speak of it; proofs/Joined.antt joins it with Faults and
--- Values.
-use Rattle.std.specs.Prelude.{ℕ, ◌+◌, Bool, true, false, not, ◌&&◌, nat_le, if◌then◌else◌, List, [], ◌∷◌, ◌++◌, codes, length, map, Option, Some, None, Result, Ok, Err}
+-- How a document is read, from its first key on. Private contracts alone speak of it; proofs/Joined.antt joins it with
+-- Faults and Values.
+use Rattle.std.specs.Prelude.{ℕ, ◌+◌, Bool, true, false, not, ◌&&◌, nat_le, if◌then◌else◌, List, [], ◌∷◌, ◌++◌, codes}
+use Rattle.std.specs.Prelude.{length, map, Option, Some, None, Result, Ok, Err}
 use Rattle.std.specs.List.{list_any}
 use Rattle.std.specs.Str.{bytes_eq, is_utf8}
 use Rattle.toml.specs.Data.{Data, Members, get_member, as_str, as_integer, as_bool, as_array, as_table}
 use Rattle.toml.specs.Parse.{parse_document}
 use Rattle.ck_base.specs.declared.ops.Op.{Op}
 use Rattle.ck_base.specs.declared.settings_faults.SettingsKind.{SettingsKind}
-use Rattle.ck_base.specs.declared.settings_faults.SettingsKind.TheVariants.{NotToml, Missing, WrongType, OutOfRange, Repeated}
-use Rattle.ck_settings.specs.Keys.{ListRow, has_locked, vector_list, callback_list, function_list, document_rows}
+use Rattle.ck_base.specs.declared.settings_faults.SettingsKind.TheVariants.{NotToml, Missing, WrongType, OutOfRange}
+use Rattle.ck_base.specs.declared.settings_faults.SettingsKind.TheVariants.{Repeated}
+use Rattle.ck_settings.specs.Keys.{ListRow, greatest_priority, most_handlers, has_locked, vector_list, callback_list}
+use Rattle.ck_settings.specs.Keys.{function_list, document_rows}
 use Rattle.ck_settings.specs.Classes.{op_of}
 use Rattle.ck_settings.specs.Values.{Vector, Callback, Function, Values, natural, data_of}
-use Rattle.ck_settings.specs.Faults.{KeyFault, is_within, is_some_text, is_outside_name, is_class, unknown_faults, element_key, element_prefix, key_of}
+use Rattle.ck_settings.specs.Faults.{KeyFault, is_within, is_some_text, is_outside_name, is_class, unknown_faults}
+use Rattle.ck_settings.specs.Faults.{element_key, element_prefix, key_of}
 use Rattle.ck_settings.specs.Documents.{unless_faulty, not_toml}
 
 infixl 10 ◌>>=◌
@@ -91,8 +95,9 @@ unfoldable pub vector : List ℕ → List Vector → Members → Result Vector K
 vector prefix before ms = do
   _ ← only prefix (fields_of vector_list) ms
   function ← text_where is_some_text prefix (codes "function") ms
-  priority ← number prefix 0 255 (codes "priority") ms
-  require (prefix ++ codes "function") Repeated (not (list_any (has_function function) before)) (record { function = function; priority = priority })
+  priority ← number prefix 0 greatest_priority (codes "priority") ms
+  require (prefix ++ codes "function") Repeated (not (list_any (has_function function) before))
+      (record { function = function; priority = priority })
 
 -- whether a callback is locked, where callbacks have that key
 abbrev pub locked_read : Bool → List ℕ → Members → Result Bool KeyFault
@@ -104,7 +109,7 @@ callback has_locked kernel prefix before ms = do
   _ ← only prefix (fields_of (callback_list has_locked)) ms
   of_struct ← text_where is_some_text prefix (codes "struct") ms
   member ← text_where is_some_text prefix (codes "member") ms
-  priority ← number prefix kernel 255 (codes "priority") ms
+  priority ← number prefix kernel greatest_priority (codes "priority") ms
   locked ← locked_read has_locked prefix ms
   require (prefix ++ codes "member") Repeated (not (list_any (has_member of_struct member) before))
       (record { of_struct = of_struct; member = member; priority = priority; locked = locked })
@@ -124,13 +129,15 @@ function prefix before ms = do
   require (prefix ++ codes "name") Repeated (not (list_any (has_name name) before)) (record { name = name; op = op })
 
 -- an element of a list: it has to be a table
-unfoldable pub element : {X : Type 0} → List ℕ → (List ℕ → List X → Members → Result X KeyFault) → List X → Data → Result X KeyFault
+unfoldable pub element : {X : Type 0} → List ℕ → (List ℕ → List X → Members → Result X KeyFault) → List X → Data →
+    Result X KeyFault
 element key fields before d = do
   ms ← or_fault (element_key key (length before + 1)) WrongType (as_table d)
   fields (element_prefix key (length before + 1)) before ms
 
 -- these elements, and those that are left
-unfoldable pub elements : {X : Type 0} → (List X → Data → Result X KeyFault) → List X → List Data → Result (List X) KeyFault
+unfoldable pub elements : {X : Type 0} → (List X → Data → Result X KeyFault) → List X → List Data →
+    Result (List X) KeyFault
 elements step before [] = Ok before
 elements step before (d ∷ ds) = step before d >>= λ x. elements step (before ++ x ∷ []) ds
 
@@ -153,7 +160,7 @@ vectors ms = do
 unfoldable pub callbacks : Bool → ℕ → ℕ → Members → Result (List Callback) KeyFault
 callbacks has_locked kernel vectors ms = do
   ds ← list [] (codes "callback") ms
-  _ ← require (codes "callback") OutOfRange (nat_le (vectors + length ds) 240) (tt {0})
+  _ ← require (codes "callback") OutOfRange (nat_le (vectors + length ds) most_handlers) (tt {0})
   callback_elements has_locked kernel ds
 
 unfoldable pub functions : Members → Result (List Function) KeyFault
@@ -167,12 +174,19 @@ unfoldable pub document : Members → Result Values KeyFault
 document ms = do
   _ ← only [] (map key_of (document_rows 1)) ms
   version ← number [] 1 2 (codes "version") ms
-  kernel ← number [] 0 255 (codes "kernel_priority") ms
-  timer ← number_or [] kernel 255 kernel (codes "timer_priority") ms
+  kernel ← number [] 0 greatest_priority (codes "kernel_priority") ms
+  timer ← number_or [] kernel greatest_priority kernel (codes "timer_priority") ms
   vs ← vectors ms
   cs ← callbacks (has_locked version) kernel (length vs) ms
   fs ← functions ms
-  Ok (record { version = version; kernel_priority = kernel; timer_priority = timer; vectors = vs; callbacks = cs; functions = fs })
+  Ok (record {
+    version = version;
+    kernel_priority = kernel;
+    timer_priority = timer;
+    vectors = vs;
+    callbacks = cs;
+    functions = fs;
+  })
 
 -- ---- the file
 

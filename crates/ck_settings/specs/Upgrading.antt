@@ -1,5 +1,5 @@
--- The document of version 2 that says what some settings are, each key in its place in byte order. Private contracts alone speak
--- of it.
+-- The document of version 2 that says what some settings are, each key in its place in byte order. Private contracts alone
+-- speak of it.
 use Rattle.std.specs.Prelude.{ℕ, pos, Bool, true, false, List, codes, map}
 use Rattle.toml.specs.Data.{Data, string, integer, boolean, array, table, Members, no_members, member}
 use Rattle.std.specs.Ordering.{nat_cmp, match_ordering}
@@ -44,16 +44,15 @@ tables members xs = array (items_of (map (λ x. table (members x)) xs))
 
 abbrev pub upgraded_members : Values → Members
 upgraded_members v =
-    member (codes "callback") (tables callback_members v.callbacks) (member (codes "function") (tables function_members v.functions)
-    (member (codes "kernel_priority") (integer (pos v.kernel_priority)) (member (codes "timer_priority") (integer (pos v.timer_priority))
-    (member (codes "vector") (tables vector_members v.vectors) (member (codes "version") (integer (pos 2)) no_members)))))
+    member (codes "callback") (tables callback_members v.callbacks)
+    (member (codes "function") (tables function_members v.functions)
+    (member (codes "kernel_priority") (integer (pos v.kernel_priority))
+    (member (codes "timer_priority") (integer (pos v.timer_priority))
+    (member (codes "vector") (tables vector_members v.vectors)
+    (member (codes "version") (integer (pos 2)) no_members)))))
 
 -- the members, and this value at this key
 abbrev pub put_member : List ℕ → Data → Members → Members
 put_member k d no_members = member k d no_members
 put_member k d (member l e ms) =
     match_ordering (slice_cmp nat_cmp k l) (member k d (member l e ms)) (member l d ms) (member l e (put_member k d ms))
-
--- the settings, in version 2
-abbrev pub upgraded_values : Values → Values
-upgraded_values v = record v { version = 2 }

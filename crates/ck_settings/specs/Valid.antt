@@ -4,6 +4,7 @@ use Rattle.std.specs.List.{list_any, AllByRecursion}
 use Rattle.ck_base.specs.declared.ops.Op.{Op}
 use Rattle.ck_base.specs.declared.ops.Op.TheVariants.{IQuiet, IWakes, SPlain, SWakes, Normal, Free, Neutral}
 use Rattle.std.specs.Str.{bytes_eq}
+use Rattle.ck_settings.specs.Keys.{greatest_priority, most_handlers}
 use Rattle.ck_settings.specs.Values.{Vector, Callback, Function, Values}
 use Rattle.ck_settings.specs.Faults.{is_some_text, is_outside_name}
 
@@ -20,13 +21,13 @@ is_outside_op _ = false
 
 pub record IsVector (v : Vector) : Type 0 where
   pub function : is_some_text v.function ≡ true
-  pub priority : v.priority ≤ 255
+  pub priority : v.priority ≤ greatest_priority
 
 -- of settings of this version, with this priority of the kernel
 pub record IsCallback (version kernel : ℕ) (c : Callback) : Type 0 where
   pub of_struct : is_some_text c.of_struct ≡ true
   pub member : is_some_text c.member ≡ true
-  pub priority : (kernel ≤ c.priority) × (c.priority ≤ 255)
+  pub priority : (kernel ≤ c.priority) × (c.priority ≤ greatest_priority)
   pub locked : version ≡ 1 → c.locked ≡ false
 
 pub record IsFunction (f : Function) : Type 0 where
@@ -50,9 +51,9 @@ AllNew same before (x ∷ xs) = (list_any (same x) before ≡ false) × AllNew s
 
 pub record AreValid (v : Values) : Type 0 where
   pub version : (v.version ≡ 1) ⊎ (v.version ≡ 2)
-  pub kernel : v.kernel_priority ≤ 255
-  pub timer : (v.kernel_priority ≤ v.timer_priority) × (v.timer_priority ≤ 255)
-  pub handlers : length v.vectors + length v.callbacks ≤ 240
+  pub kernel : v.kernel_priority ≤ greatest_priority
+  pub timer : (v.kernel_priority ≤ v.timer_priority) × (v.timer_priority ≤ greatest_priority)
+  pub handlers : length v.vectors + length v.callbacks ≤ most_handlers
   pub vectors : AllByRecursion IsVector v.vectors
   pub callbacks : AllByRecursion (IsCallback v.version v.kernel_priority) v.callbacks
   pub functions : AllByRecursion IsFunction v.functions

@@ -1,8 +1,9 @@
--- The settings that a document writes, with the defaults where a key is left out. They mean something where the document has
--- no fault (specs/Faults.antt).
+-- The settings that a document writes, with the defaults where a key is left out. They mean something where the document
+-- has no fault (specs/Faults.antt).
 use Rattle.std.specs.Prelude.{ℕ, ℤ, pos, negsuc, Bool, false, ◌&&◌, List, [], ◌∷◌, codes, map, string_bytes}
 use Rattle.std.specs.Option.{option_map_or}
-use Rattle.toml.specs.Data.{Data, Items, no_items, item, Members, no_members, get_member, as_str, as_integer, as_bool, as_array, as_table}
+use Rattle.toml.specs.Data.{Data, Items, no_items, item, Members, no_members, get_member, as_str, as_integer, as_bool}
+use Rattle.toml.specs.Data.{as_array, as_table}
 use Rattle.ck_base.specs.declared.ops.Op.{Op}
 use Rattle.ck_base.specs.declared.ops.Op.TheVariants.{Neutral}
 use Rattle.ck_settings.specs.Keys.{has_locked}

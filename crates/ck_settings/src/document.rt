@@ -5,7 +5,9 @@ ghost use Rattle.ck_settings.specs.Documents.{Gives};
 ghost use Rattle.ck_settings.specs.Reading.{document as document_read};
 
 use crate::errors::ReadSettingsError;
-use crate::keys::{DOCUMENT_KEYS, KERNEL_PRIORITY, LAST_VERSION, TIMER_PRIORITY, VERSION};
+use crate::keys::{
+    DOCUMENT_KEYS, GREATEST_PRIORITY, KERNEL_PRIORITY, LAST_VERSION, TIMER_PRIORITY, VERSION,
+};
 use crate::lists::{callbacks, functions, vectors};
 use crate::section::{Place, Section};
 use crate::settings::Settings;
@@ -24,11 +26,11 @@ pub fn settings_in(alloc: Global, table: &Table) -> Result<Settings, ReadSetting
     };
     document.only(&DOCUMENT_KEYS)?;
     let version = document.number(VERSION, 1, LAST_VERSION)?;
-    let kernel_priority = document.number(KERNEL_PRIORITY, 0, u8::MAX)?;
+    let kernel_priority = document.number(KERNEL_PRIORITY, 0, GREATEST_PRIORITY)?;
     let timer_priority = document.number_or(
         TIMER_PRIORITY,
         kernel_priority,
-        u8::MAX,
+        GREATEST_PRIORITY,
         kernel_priority,
     )?;
     let vectors = vectors(&document)?;

@@ -5,8 +5,8 @@
 //! order of their faults), `specs/Classes.antt` (the classes of outside functions), `specs/Faults.antt`
 //! (all faults of a document in order), `specs/Values.antt` (the values that it writes) and
 //! `specs/Documents.antt` (what a file says); `specs/Valid.antt` says what callers may rely on. Which
-//! text is which document is `toml`'s own definition. `specs/Upgrading.antt` is the document of version 2
-//! that is written for settings. docs/SETTINGS.md has it all in plain words.
+//! text is which document is `toml`'s own definition. `specs/Lib.antt` has the order in which they are
+//! read. docs/SETTINGS.md has it all in plain words.
 //!
 //! It must not know: the program, the folder, and what the names in the settings name.
 #![tactic(auto)]

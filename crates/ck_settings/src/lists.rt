@@ -29,8 +29,8 @@ ghost use Rattle.ck_settings.specs.Reading.{
 use crate::classes::op_for;
 use crate::errors::ReadSettingsError;
 use crate::keys::{
-    CALLBACK, CALLBACK_KEYS_1, CALLBACK_KEYS_2, CLASS, FUNCTION, FUNCTION_KEYS, LOCKED, MEMBER,
-    MOST_HANDLERS, NAME, PRIORITY, STRUCT, VECTOR, VECTOR_KEYS, WAKES,
+    CALLBACK, CALLBACK_KEYS_1, CALLBACK_KEYS_2, CLASS, FUNCTION, FUNCTION_KEYS, GREATEST_PRIORITY,
+    LOCKED, MEMBER, MOST_HANDLERS, NAME, PRIORITY, STRUCT, VECTOR, VECTOR_KEYS, WAKES,
 };
 use crate::section::{Section, element_of};
 use crate::settings::{CallbackSetting, FunctionSetting, VectorSetting};
@@ -71,11 +71,12 @@ fn vector_in(
     section: &Section<'_>,
     before: &[VectorSetting],
 ) -> Result<VectorSetting, ReadSettingsError>
-    ensures { Gives vector_view result (vector_read (prefix_of section.now.place) (map vector_view before.now) (table_view section.now.table.now)) }
+    ensures { Gives vector_view result
+        (vector_read (prefix_of section.now.place) (map vector_view before.now) (table_view section.now.table.now)) }
 {
     section.only(&VECTOR_KEYS)?;
     let function = section.text(FUNCTION)?;
-    let priority = section.number(PRIORITY, 0, u8::MAX)?;
+    let priority = section.number(PRIORITY, 0, GREATEST_PRIORITY)?;
     if has_function(before, function) {
         return Err(section.fault(FUNCTION, SettingsKind::Repeated));
     }
@@ -86,7 +87,8 @@ fn vector_in(
 /// Nothing, where the table has no keys but those of a callback, `locked` among them where callbacks
 /// have that key.
 fn only_callback_keys(section: &Section<'_>, has_locked: bool) -> Result<(), ReadSettingsError>
-    ensures { Gives (λ nothing. nothing) result (only (prefix_of section.now.place) (fields_of (callback_list has_locked)) (table_view section.now.table.now)) }
+    ensures { Gives (λ nothing. nothing) result
+        (only (prefix_of section.now.place) (fields_of (callback_list has_locked)) (table_view section.now.table.now)) }
 {
     if has_locked {
         section.only(&CALLBACK_KEYS_2)
@@ -97,7 +99,8 @@ fn only_callback_keys(section: &Section<'_>, has_locked: bool) -> Result<(), Rea
 
 /// Whether the callback that a table writes is locked, where callbacks have that key.
 fn locked_in(section: &Section<'_>, has_locked: bool) -> Result<bool, ReadSettingsError>
-    ensures { Gives (λ b. b) result (locked_read has_locked (prefix_of section.now.place) (table_view section.now.table.now)) }
+    ensures { Gives (λ b. b) result
+        (locked_read has_locked (prefix_of section.now.place) (table_view section.now.table.now)) }
 {
     if has_locked {
         section.truth(LOCKED)
@@ -114,12 +117,14 @@ fn callback_in(
     kernel_priority: u8,
     before: &[CallbackSetting],
 ) -> Result<CallbackSetting, ReadSettingsError>
-    ensures { Gives callback_view result (callback_read has_locked kernel_priority (prefix_of section.now.place) (map callback_view before.now) (table_view section.now.table.now)) }
+    ensures { Gives callback_view result
+        (callback_read has_locked kernel_priority (prefix_of section.now.place) (map callback_view before.now)
+        (table_view section.now.table.now)) }
 {
     only_callback_keys(section, has_locked)?;
     let of_struct = section.text(STRUCT)?;
     let member = section.text(MEMBER)?;
-    let priority = section.number(PRIORITY, kernel_priority, u8::MAX)?;
+    let priority = section.number(PRIORITY, kernel_priority, GREATEST_PRIORITY)?;
     let locked = locked_in(section, has_locked)?;
     if has_member(before, of_struct, member) {
         return Err(section.fault(MEMBER, SettingsKind::Repeated));
@@ -153,7 +158,9 @@ fn function_in(
     section: &Section<'_>,
     before: &[FunctionSetting],
 ) -> Result<FunctionSetting, ReadSettingsError>
-    ensures { Gives function_view result (function_read (prefix_of section.now.place) (map function_view before.now) (table_view section.now.table.now)) }
+    ensures { Gives function_view result
+        (function_read (prefix_of section.now.place) (map function_view before.now)
+        (table_view section.now.table.now)) }
 {
     section.only(&FUNCTION_KEYS)?;
     let name = section.outside_name(NAME)?;
@@ -172,7 +179,8 @@ fn vector_of(
     before: &[VectorSetting],
     element: &Value,
 ) -> Result<VectorSetting, ReadSettingsError>
-    ensures { Gives vector_view result (element_read (codes "vector") vector_read (map vector_view before.now) (view element.now)) }
+    ensures { Gives vector_view result
+        (element_read (codes "vector") vector_read (map vector_view before.now) (view element.now)) }
 {
     let section = element_of(alloc, VECTOR, before.len() + 1, element)?;
     vector_in(&section, before)
@@ -187,7 +195,9 @@ fn callback_of(
     before: &[CallbackSetting],
     element: &Value,
 ) -> Result<CallbackSetting, ReadSettingsError>
-    ensures { Gives callback_view result (element_read (codes "callback") (callback_read has_locked kernel_priority) (map callback_view before.now) (view element.now)) }
+    ensures { Gives callback_view result
+        (element_read (codes "callback") (callback_read has_locked kernel_priority) (map callback_view before.now)
+        (view element.now)) }
 {
     let section = element_of(alloc, CALLBACK, before.len() + 1, element)?;
     callback_in(&section, has_locked, kernel_priority, before)
@@ -200,7 +210,8 @@ fn function_of(
     before: &[FunctionSetting],
     element: &Value,
 ) -> Result<FunctionSetting, ReadSettingsError>
-    ensures { Gives function_view result (element_read (codes "function") function_read (map function_view before.now) (view element.now)) }
+    ensures { Gives function_view result
+        (element_read (codes "function") function_read (map function_view before.now) (view element.now)) }
 {
     let section = element_of(alloc, FUNCTION, before.len() + 1, element)?;
     function_in(&section, before)
@@ -225,7 +236,8 @@ fn callbacks_of(
     kernel_priority: u8,
     elements: &[Value],
 ) -> Result<Vec<CallbackSetting>, ReadSettingsError>
-    ensures { Gives (λ v. map callback_view v.items) result (callback_elements has_locked kernel_priority (map view elements.now)) }
+    ensures { Gives (λ v. map callback_view v.items) result
+        (callback_elements has_locked kernel_priority (map view elements.now)) }
 {
     let mut callbacks = Vec::new(alloc);
     'elements: for element in elements {
@@ -269,7 +281,8 @@ pub fn callbacks(
     vectors: usize,
 ) -> Result<Vec<CallbackSetting>, ReadSettingsError>
     requires { prefix_of document.now.place ≡ [] }
-    ensures { Gives (λ v. map callback_view v.items) result (callbacks_read has_locked kernel_priority vectors (table_view document.now.table.now)) }
+    ensures { Gives (λ v. map callback_view v.items) result
+        (callbacks_read has_locked kernel_priority vectors (table_view document.now.table.now)) }
 {
     let elements = document.list(CALLBACK)?;
     if vectors > MOST_HANDLERS || elements.len() > MOST_HANDLERS - vectors {

@@ -1,4 +1,4 @@
-//! A table of the document, and what stands at its keys.
+//! A table of the document, and the values at its keys.
 ghost use Rattle.std.specs.Prelude.{◌≡◌, ◌++◌, map, option_map, string_bytes};
 ghost use Rattle.std.specs.List.{list_any};
 ghost use Rattle.std.specs.Str.{bytes_eq};
@@ -9,7 +9,17 @@ ghost use Rattle.ck_base.specs.declared.settings_faults.SettingsKind.TheVariants
 ghost use Rattle.ck_settings.specs.Places.{prefix_of};
 ghost use Rattle.ck_settings.specs.Faults.{element_key, element_prefix, is_class, is_outside_name, is_some_text};
 ghost use Rattle.ck_settings.specs.Documents.{Gives, IsFault};
-ghost use Rattle.ck_settings.specs.Reading.{list, needed, number, number_or, number_read, only, or_fault, text_where, truth};
+ghost use Rattle.ck_settings.specs.Reading.{
+  list,
+  needed,
+  number,
+  number_or,
+  number_read,
+  only,
+  or_fault,
+  text_where,
+  truth,
+};
 
 use crate::classes::op_for;
 use crate::errors::ReadSettingsError;
@@ -17,15 +27,14 @@ use ck_base::{OutOfMemory, SettingsFault, SettingsKind, is_kernel_name};
 use std::alloc::Global;
 use toml::{Table, Value};
 
-/// Where a table stands: it is the document, or an element of the list of this key, by its number
-/// from 1.
+/// Where a table is: it is the document, or an element of the list of this key, by its number from 1.
 #[derive(Clone, Copy)]
 pub enum Place {
     Document,
     Element(&'static str, usize),
 }
 
-/// A table of the document.
+/// A table of the document, and where it is.
 #[derive(Clone, Copy)]
 pub struct Section<'a> {
     pub alloc: Global,
@@ -40,7 +49,8 @@ pub fn element_of<'a>(
     number: usize,
     element: &'a Value,
 ) -> Result<Section<'a>, ReadSettingsError>
-    ensures table { Gives (λ s. table_view s.table.now) result (or_fault (element_key list.now number) WrongType (as_table (view element.now))) }
+    ensures table { Gives (λ s. table_view s.table.now) result
+        (or_fault (element_key list.now number) WrongType (as_table (view element.now))) }
     ensures place { IfOk result (λ s. prefix_of s.place ≡ element_prefix list.now number) }
 {
     let Some(table) = element.as_table() else {
@@ -87,7 +97,8 @@ impl<'a> Section<'a> {
     /// Nothing, where the table has no keys but these. Else the first of the others in byte order is
     /// unknown.
     pub fn only(&self, keys: &[&'static str]) -> Result<(), ReadSettingsError>
-        ensures { Gives (λ nothing. nothing) result (only (prefix_of self.now.place) (map (λ k. k.now) keys.now) (table_view self.now.table.now)) }
+        ensures { Gives (λ nothing. nothing) result
+            (only (prefix_of self.now.place) (map (λ k. k.now) keys.now) (table_view self.now.table.now)) }
     {
         'members: for key in self.table.keys() {
             if !is_known(keys, key) {
@@ -97,16 +108,17 @@ impl<'a> Section<'a> {
         Ok(())
     }
 
-    /// What stands at a key.
+    /// The value at a key, if it is there.
     fn get(&self, key: &str) -> Option<&'a Value>
         ensures { option_map (λ v. view v.now) result ≡ get_member key.now (table_view self.now.table.now) }
     {
         self.table.get(key)
     }
 
-    /// What stands at a key that has to be there.
+    /// The value at a key that has to be there.
     fn needed(&self, key: &str) -> Result<&'a Value, ReadSettingsError>
-        ensures { Gives (λ v. view v.now) result (needed (prefix_of self.now.place) key.now (table_view self.now.table.now)) }
+        ensures { Gives (λ v. view v.now) result
+            (needed (prefix_of self.now.place) key.now (table_view self.now.table.now)) }
     {
         match self.get(key) {
             Some(value) => Ok(value),
@@ -114,7 +126,7 @@ impl<'a> Section<'a> {
         }
     }
 
-    /// The number that stands at a key, from `least` to `most`.
+    /// The number that the value at a key is, from `least` to `most`.
     #[tactic(auto, unfolding(crate::specs::Reading::number_read))]
     fn number_read(
         &self,
@@ -123,7 +135,8 @@ impl<'a> Section<'a> {
         most: u8,
         value: &Value,
     ) -> Result<u8, ReadSettingsError>
-        ensures { Gives (λ n. n) result (number_read (prefix_of self.now.place ++ key.now) least most (view value.now)) }
+        ensures { Gives (λ n. n) result
+            (number_read (prefix_of self.now.place ++ key.now) least most (view value.now)) }
     {
         let Some(number) = value.as_integer() else {
             return Err(self.fault(key, SettingsKind::WrongType));
@@ -137,7 +150,8 @@ impl<'a> Section<'a> {
     /// The number at a key that has to be there, from `least` to `most`.
     #[tactic(auto, unfolding(crate::specs::Reading::number))]
     pub fn number(&self, key: &str, least: u8, most: u8) -> Result<u8, ReadSettingsError>
-        ensures { Gives (λ n. n) result (number (prefix_of self.now.place) least most key.now (table_view self.now.table.now)) }
+        ensures { Gives (λ n. n) result
+            (number (prefix_of self.now.place) least most key.now (table_view self.now.table.now)) }
     {
         let value = self.needed(key)?;
         self.number_read(key, least, most, value)
@@ -151,7 +165,8 @@ impl<'a> Section<'a> {
         most: u8,
         default: u8,
     ) -> Result<u8, ReadSettingsError>
-        ensures { Gives (λ n. n) result (number_or (prefix_of self.now.place) least most default key.now (table_view self.now.table.now)) }
+        ensures { Gives (λ n. n) result
+            (number_or (prefix_of self.now.place) least most default key.now (table_view self.now.table.now)) }
     {
         match self.get(key) {
             Some(value) => self.number_read(key, least, most, value),
@@ -159,9 +174,10 @@ impl<'a> Section<'a> {
         }
     }
 
-    /// The text that stands at a key.
+    /// The text that the value at a key is.
     fn text_read(&self, key: &str, value: &'a Value) -> Result<&'a str, ReadSettingsError>
-        ensures { Gives (λ s. s.now) result (or_fault (prefix_of self.now.place ++ key.now) WrongType (as_str (view value.now))) }
+        ensures { Gives (λ s. s.now) result
+            (or_fault (prefix_of self.now.place ++ key.now) WrongType (as_str (view value.now))) }
     {
         match value.as_str() {
             Some(text) => Ok(text),
@@ -172,7 +188,8 @@ impl<'a> Section<'a> {
     /// The text at a key that has to be there, which isn't empty.
     #[tactic(auto, unfolding(crate::specs::Reading::text_where))]
     pub fn text(&self, key: &str) -> Result<&'a str, ReadSettingsError>
-        ensures { Gives (λ s. s.now) result (text_where is_some_text (prefix_of self.now.place) key.now (table_view self.now.table.now)) }
+        ensures { Gives (λ s. s.now) result
+            (text_where is_some_text (prefix_of self.now.place) key.now (table_view self.now.table.now)) }
     {
         let value = self.needed(key)?;
         let text = self.text_read(key, value)?;
@@ -185,7 +202,8 @@ impl<'a> Section<'a> {
     /// The name at a key that has to be there, which isn't empty and is none of the kernel's.
     #[tactic(auto, unfolding(crate::specs::Reading::text_where))]
     pub fn outside_name(&self, key: &str) -> Result<&'a str, ReadSettingsError>
-        ensures { Gives (λ s. s.now) result (text_where is_outside_name (prefix_of self.now.place) key.now (table_view self.now.table.now)) }
+        ensures { Gives (λ s. s.now) result
+            (text_where is_outside_name (prefix_of self.now.place) key.now (table_view self.now.table.now)) }
     {
         let value = self.needed(key)?;
         let name = self.text_read(key, value)?;
@@ -198,7 +216,8 @@ impl<'a> Section<'a> {
     /// The word of a class at a key that has to be there.
     #[tactic(auto, unfolding(crate::specs::Reading::text_where))]
     pub fn class(&self, key: &str) -> Result<&'a str, ReadSettingsError>
-        ensures { Gives (λ s. s.now) result (text_where is_class (prefix_of self.now.place) key.now (table_view self.now.table.now)) }
+        ensures { Gives (λ s. s.now) result
+            (text_where is_class (prefix_of self.now.place) key.now (table_view self.now.table.now)) }
     {
         let value = self.needed(key)?;
         let class = self.text_read(key, value)?;
@@ -221,10 +240,11 @@ impl<'a> Section<'a> {
         }
     }
 
-    #[tactic(auto, using(crate::proofs::Elements::data_of_items))]
     /// The elements of the list at a key, none where the key isn't there.
+    #[tactic(auto, using(crate::proofs::Elements::data_of_items))]
     pub fn list(&self, key: &str) -> Result<&'a [Value], ReadSettingsError>
-        ensures { Gives (λ vs. map view vs.now) result (list (prefix_of self.now.place) key.now (table_view self.now.table.now)) }
+        ensures { Gives (λ vs. map view vs.now) result
+            (list (prefix_of self.now.place) key.now (table_view self.now.table.now)) }
     {
         let Some(value) = self.get(key) else {
             return Ok(&[]);

@@ -3,7 +3,7 @@ ghost use Rattle.std.specs.Prelude.{◌≡◌, IfOk, OnOk, Ok, map};
 ghost use Rattle.toml.specs.Data.{string, table};
 ghost use Rattle.toml.specs.View.{table_view, view};
 ghost use Rattle.ck_settings.specs.Values.{callback_view, function_view, settings_view, vector_view};
-ghost use Rattle.ck_settings.specs.Documents.{settings_of};
+ghost use Rattle.ck_settings.specs.Documents.{settings_of, upgraded_values};
 ghost use Rattle.ck_settings.specs.Valid.{AreValid};
 ghost use Rattle.ck_settings.specs.Upgrading.{
   callback_members,
@@ -12,7 +12,6 @@ ghost use Rattle.ck_settings.specs.Upgrading.{
   put_member,
   tables,
   upgraded_members,
-  upgraded_values,
   vector_members,
   wakes_of as wakes_written,
 };

@@ -6,4 +6,5 @@ use Rattle.ck_settings.proofs.lists.functions_of.Given as goal
 
 -- what is left to read completes the list
 abbrev pub invariant-elements : goal.invariant-elements
-invariant-elements l = rest function_view (element (codes "function") function) l.functions.items l.elements l.element-index ≡ rest function_view (element (codes "function") function) [] l.elements 0
+invariant-elements l = rest function_view (element (codes "function") function) l.functions.items l.elements
+    l.element-index ≡ rest function_view (element (codes "function") function) [] l.elements 0

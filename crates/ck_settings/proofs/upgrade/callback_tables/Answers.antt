@@ -8,4 +8,5 @@ use Rattle.ck_settings.proofs.upgrade.callback_tables.Goals as goal
 pub returns : goal.returns
 returns c =
     view-Array c.settings.values
-    ∙ all_tables callback_view callback_members c.settings.values.items c.args.callbacks.now c.settings.callback-index c.settings-test.false c.settings.invariant
+    ∙ all_tables callback_view callback_members c.settings.values.items c.args.callbacks.now c.settings.callback-index
+        c.settings-test.false c.settings.invariant

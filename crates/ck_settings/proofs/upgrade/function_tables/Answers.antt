@@ -8,4 +8,5 @@ use Rattle.ck_settings.proofs.upgrade.function_tables.Goals as goal
 pub returns : goal.returns
 returns c =
     view-Array c.settings.values
-    ∙ all_tables function_view function_members c.settings.values.items c.args.functions.now c.settings.function-index c.settings-test.false c.settings.invariant
+    ∙ all_tables function_view function_members c.settings.values.items c.args.functions.now c.settings.function-index
+        c.settings-test.false c.settings.invariant

@@ -8,4 +8,5 @@ use Rattle.ck_settings.proofs.upgrade.vector_tables.Goals as goal
 pub returns : goal.returns
 returns c =
     view-Array c.settings.values
-    ∙ all_tables vector_view vector_members c.settings.values.items c.args.vectors.now c.settings.vector-index c.settings-test.false c.settings.invariant
+    ∙ all_tables vector_view vector_members c.settings.values.items c.args.vectors.now c.settings.vector-index
+        c.settings-test.false c.settings.invariant
