@@ -4,7 +4,9 @@ use Rattle.std.specs.Prelude.{Bool, true, false, ◌||◌, if◌then◌else◌}
 use Rattle.ck_base.specs.declared.tokens.Token.{Token}
 use Rattle.ck_grammar.specs.Trees as trees
 use Rattle.ck_grammar.specs.Trees.{Expr, Operands, Suffixes}
-use Rattle.ck_grammar.specs.Words.{Word, Lead, SizeofLead, lead}
+use Rattle.ck_grammar.specs.Words.{Word, lead}
+use Rattle.ck_grammar.specs.declared.classes.Lead.{Lead}
+use Rattle.ck_grammar.specs.declared.classes.Lead.TheVariants.{Sizeof as SizeofLead}
 
 abbrev pub is_sizeof : Lead → Bool
 is_sizeof SizeofLead = true
