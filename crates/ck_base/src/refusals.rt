@@ -80,24 +80,40 @@ pub enum Fault {
 }
 
 impl From<OutOfMemory> for Fault {
+    ghost use Rattle.ck_base.specs.declared.refusals.Fault.TheVariants.{Memory};
+
+    ghost from_gives = { λ _ fault. fault ≡ Memory };
+
     fn from(_error: OutOfMemory) -> Fault {
         Fault::Memory
     }
 }
 
 impl From<AllocError> for Fault {
+    ghost use Rattle.ck_base.specs.declared.refusals.Fault.TheVariants.{Memory};
+
+    ghost from_gives = { λ _ fault. fault ≡ Memory };
+
     fn from(_error: AllocError) -> Fault {
         Fault::Memory
     }
 }
 
 impl<T: Drop> From<AllocFailed<T>> for Fault {
+    ghost use Rattle.ck_base.specs.declared.refusals.Fault.TheVariants.{Memory};
+
+    ghost from_gives = { λ _ fault. fault ≡ Memory };
+
     fn from(_error: AllocFailed<T>) -> Fault {
         Fault::Memory
     }
 }
 
 impl From<Refusal> for Fault {
+    ghost use Rattle.ck_base.specs.declared.refusals.Fault.TheVariants.{Unsupported};
+
+    ghost from_gives = { λ refusal fault. fault ≡ Unsupported refusal };
+
     fn from(refusal: Refusal) -> Fault {
         Fault::Unsupported(refusal)
     }

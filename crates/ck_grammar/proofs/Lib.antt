@@ -34,3 +34,6 @@ mod WordsTold
 pub mod Worked
 mod WorkedDepth
 mod WorkedStatements
+pub mod FixedWordsFound
+pub mod Grouping
+mod WorkedOperators

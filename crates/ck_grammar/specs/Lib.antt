@@ -1,6 +1,7 @@
 -- What is promised
 pub mod Spelling
 pub mod Answers
+pub mod FixedWords
 -- What it rests on: trees, and which tokens they spell
 pub mod Trees
 pub mod Statements
@@ -20,3 +21,5 @@ pub mod ReadingTypes
 pub mod Reading
 pub mod Phrases
 pub mod ReadingStatements
+-- Private
+pub mod Candidates

@@ -9,8 +9,10 @@
 #![tactic(auto)]
 
 mod laws;
+mod words;
 
 pub use laws::{
     one_declaration, one_expression, one_external, one_file, one_longest, one_statement,
     reads_expressions, reads_files,
 };
+pub use words::{FixedWord, fixed_word};

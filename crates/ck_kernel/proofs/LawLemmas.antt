@@ -18,8 +18,12 @@ use Rattle.ck_kernel.proofs.RowLemmas.{blank, at_each, at_row, position_of_row}
 pub names_differ : NamesDiffer
 names_differ i j d less within same =
     let earlier : i < length kernel_table = omega arith in
-    let named : (get_or kernel_table i blank).name ≡ (get_or kernel_table j blank).name = rw (get_or_default kernel_table i d blank earlier, get_or_default kernel_table j d blank within) at same in
-    let there : Some i ≡ Some j = sym (position_of_row i earlier) ∙ (ap (λ text. position (λ c. bytes_eq c.name text) kernel_table) named ∙ position_of_row j within) in
+    let one = get_or_default kernel_table i d blank earlier in
+    let other = get_or_default kernel_table j d blank within in
+    let named : (get_or kernel_table i blank).name ≡ (get_or kernel_table j blank).name = rw (one, other) at same in
+    let there : Some i ≡ Some j =
+    sym (position_of_row i earlier)
+    ∙ (ap (λ text. position (λ c. bytes_eq c.name text) kernel_table) named ∙ position_of_row j within) in
     let equal : i ≡ j = cc in
     absurd (omega arith)
 
@@ -38,7 +42,9 @@ pub others_have_none : OthersHaveNone
 others_have_none text = elim (position_cases (λ c. bytes_eq c.name text) kernel_table blank) [
   | inl (i, found, within, passes) ↦ rw found tt
   | inr (none, other) ↦
-      rw none (All-from_get_or (λ c. c.name ≢ text) kernel_table blank (λ k h same. both_ways _ (other k h) ((bytes_eq-Decides _ _).1 same)))
+      rw none
+      (All-from_get_or (λ c. c.name ≢ text) kernel_table blank
+      (λ k h same. both_ways _ (other k h) ((bytes_eq-Decides _ _).1 same)))
 ]
 
 entries : at_each (λ k c. is_parameter c.parameters c.entry) ≡ true
@@ -47,7 +53,8 @@ entries = refl
 
 pub entries_are_parameters : EntriesAreParameters
 entries_are_parameters =
-    All-from_get_or (λ c. IsTrue (is_parameter c.parameters c.entry)) kernel_table blank (λ k h. at_row (λ k c. is_parameter c.parameters c.entry) k entries h)
+    All-from_get_or (λ c. IsTrue (is_parameter c.parameters c.entry)) kernel_table blank
+    (λ k h. at_row (λ k c. is_parameter c.parameters c.entry) k entries h)
 
 -- whether an op has a call: the index of the first one
 first_call : (op : Op) → IsTrue (is_of_calls op) → Any (λ c. c.op ≡ op) kernel_table
@@ -82,7 +89,8 @@ ops = refl
 
 of_calls : (op : Op) → Any (λ c. c.op ≡ op) kernel_table → IsTrue (is_of_calls op)
 of_calls op (k, c, within, is, has) =
-    let here : (get_or kernel_table k blank).op ≡ op = ap (λ d. d.op) (get_or_default kernel_table k blank c within ∙ is) ∙ has in
+    let here : (get_or kernel_table k blank).op ≡ op =
+    ap (λ d. d.op) (get_or_default kernel_table k blank c within ∙ is) ∙ has in
     rw here at (at_row (λ k c. is_of_calls c.op) k ops within)
 
 pub ops_have_calls : OpsHaveCalls

@@ -1,3 +1,7 @@
-pub mod Searching
-pub mod RowLemmas
-pub mod LawLemmas
+-- The theorems
+mod LawLemmas
+-- The rows, and what searches give
+mod RowLemmas
+mod Searching
+-- The definitions at work
+mod Worked

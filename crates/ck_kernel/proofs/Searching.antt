@@ -6,7 +6,9 @@ use Rattle.std.proofs.lemmas.Bool.{cases_lt, lt-ltb, le-ltb, cond-true, cond-fal
 use Rattle.std.proofs.lemmas.List.Sums.{passes_at_first, fails_before_first}
 
 -- `position` gives an index where the test passes, or the test fails everywhere
-pub position_cases : {X : Type 0} (p : X → Bool) (xs : List X) (d : X) → ((i : ℕ) × (position p xs ≡ Some i) × (i < length xs) × (p (get_or xs i d) ≡ true)) ⊎ ((position p xs ≡ None) × ((k : ℕ) → k < length xs → p (get_or xs k d) ≡ false))
+pub position_cases : {X : Type 0} (p : X → Bool) (xs : List X) (d : X)
+    → ((i : ℕ) × (position p xs ≡ Some i) × (i < length xs) × (p (get_or xs i d) ≡ true))
+    ⊎ ((position p xs ≡ None) × ((k : ℕ) → k < length xs → p (get_or xs k d) ≡ false))
 position_cases p xs d = elim (cases_lt (position_or_len p xs) (length xs)) [
   | inl within ↦ inl (position_or_len p xs, cond-true _ _ _ (lt-ltb _ _ within), within, passes_at_first p xs d within)
   | inr past ↦ inr (cond-false _ _ _ (le-ltb _ _ past), λ k h. fails_before_first p xs k d (omega arith))

@@ -1,5 +1,5 @@
--- The kernel's call table: one line a call, in the order of the rows, which are numbered from 0. docs/KERNEL.md has the same
--- rows in the same order, with their prototypes.
+-- The kernel's call table: one line a call, in the order of the rows, which are numbered from 0. docs/KERNEL.md has the
+-- same rows in the same order, with their prototypes (ChibiOS/RT Reference Manual).
 use Rattle.std.specs.Prelude.{ℕ, List, [], ◌∷◌, Option, length, ◌<◌, codes, slice_get, position}
 use Prim.Native.String.{String}
 use Rattle.std.specs.Option.{option_map}
@@ -10,8 +10,8 @@ use Rattle.ck_base.specs.declared.spans.RowId.{RowId}
 use Rattle.ck_kernel.specs.declared.entries.EntrySink.{EntrySink}
 use Rattle.ck_kernel.specs.declared.entries.EntrySink.TheVariants.{Absent, Thread, Descriptor, Timer}
 
--- a kernel call: its name, what it does to the system state, its number of parameters, and the parameter that becomes the
--- function of a thread or of a timer
+-- a kernel call: its name, what it does to the system state, its number of parameters, and the parameter that becomes
+-- the function of a thread or of a timer
 pub record KernelCall : Type 0 where
   pub name : List ℕ
   pub op : Op

@@ -18,14 +18,15 @@ RowsHaveTheirNames = (row : RowId) → IsRow row → option_and_then (λ c. row_
 
 -- the row of a name has that name
 abbrev pub NamesHaveTheirRows : Type 0
-NamesHaveTheirRows = (text : List ℕ) → IfSome (row_named text) (λ row. option_map (λ c. c.name) (call_at row) ≡ Some text)
+NamesHaveTheirRows =
+    (text : List ℕ) → IfSome (row_named text) (λ row. option_map (λ c. c.name) (call_at row) ≡ Some text)
 
 -- a name without a row is that of no call
 abbrev pub OthersHaveNone : Type 0
 OthersHaveNone = (text : List ℕ) → IfNone (row_named text) (All (λ c. c.name ≢ text) kernel_table)
 
--- whether a kernel call has this op: a neutral function of the project, a handler's return, and the begin and end of a function
--- that has a status variable are no kernel calls
+-- whether a kernel call has this op: a neutral function of the project, a handler's return, and the begin and end of a
+-- function that has a status variable are no kernel calls
 abbrev pub is_of_calls : Op → Bool
 is_of_calls Neutral = false
 is_of_calls HandlerReturn = false

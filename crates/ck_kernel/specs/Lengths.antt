@@ -15,7 +15,9 @@ of_length groups n = unwrap_or (slice_get groups n) []
 
 -- among these rows, looking for a name of this length finds what looking in the table does
 abbrev pub FindsRowsOf : ℕ → List ℕ → Type 0
-FindsRowsOf n rows = (text : List ℕ) → length text ≡ n → find (λ row. names row text) rows ≡ position (λ c. bytes_eq c.name text) kernel_table
+FindsRowsOf n rows =
+    (text : List ℕ) → length text ≡ n →
+    find (λ row. names row text) rows ≡ position (λ c. bytes_eq c.name text) kernel_table
 
 -- the group of each length is so
 pub record FindsRows (groups : List (List ℕ)) : Type 0 where
