@@ -7,6 +7,7 @@
 #   words that are no command, and on an accepted file of a megabyte;
 # - the stub headers, docs/KERNEL.md and the table of kernel calls agree (tools/check_header.sh), and tools/preprocess.sh does
 #   what it says (tools/check_preprocess.sh);
+# - docs/PROMISES.md speaks of what is there (tools/check_promises.sh);
 # - no .rt or .antt file of the repository has more than 800 lines, and no crate of tests more than 60 functions.
 #
 # It takes the program that `rt ci` or `rt run` left, and builds it where there is none or where that one is older than its
@@ -188,6 +189,7 @@ fi
 
 tools/check_header.sh || failed=$((failed + 1))
 tools/check_preprocess.sh || failed=$((failed + 1))
+tools/check_promises.sh || failed=$((failed + 1))
 
 large=$(
   find crates -name out -prune -o -type f \( -name '*.rt' -o -name '*.antt' \) \

@@ -6,7 +6,8 @@ use Rattle.ck_cli.specs.declared.calls.KernelCall.{KernelCall}
 use Rattle.ck_cli.specs.declared.calls.KernelCall.TheVariants.{Init, Disable, Suspend, Enable, Lock, Unlock}
 use Rattle.ck_cli.specs.declared.declared.Declared.{Declared}
 
-declared-with : (d : Declared) (added call : KernelCall) → is_declared (declared_with d added) call ≡ true → (added ≡ call) ⊎ (is_declared d call ≡ true)
+declared-with : (d : Declared) (added call : KernelCall)
+    → is_declared (declared_with d added) call ≡ true → (added ≡ call) ⊎ (is_declared d call ≡ true)
 declared-with d Init Init h = inl refl
 declared-with d Disable Disable h = inl refl
 declared-with d Suspend Suspend h = inl refl
@@ -17,13 +18,10 @@ declared-with d _ _ h = inr h
 
 with-same : (d : Declared) (call : KernelCall) → is_declared (declared_with d call) call ≡ true
 with-same d Init = refl
-with-same d Disable = refl
-with-same d Suspend = refl
-with-same d Enable = refl
-with-same d Lock = refl
-with-same d Unlock = refl
+with-same d _ = refl
 
-with-kept : (d : Declared) (added call : KernelCall) → is_declared d call ≡ true → is_declared (declared_with d added) call ≡ true
+with-kept : (d : Declared) (added call : KernelCall)
+    → is_declared d call ≡ true → is_declared (declared_with d added) call ≡ true
 with-kept d Init Init h = refl
 with-kept d Disable Disable h = refl
 with-kept d Suspend Suspend h = refl
@@ -42,34 +40,35 @@ either_way : {A B C : Type 0} → A ⊎ B → (A → C) → (B → C) → C
 either_way (inl a) f g = f a
 either_way (inr b) f g = g b
 
-found_in : (d : Declared) (ps : List KernelCall) (call : KernelCall) → is_declared (declared_by d ps) call ≡ true → (is_declared d call ≡ true) ⊎ Contains ps call
+found_in : (d : Declared) (ps : List KernelCall) (call : KernelCall)
+    → is_declared (declared_by d ps) call ≡ true → (is_declared d call ≡ true) ⊎ Contains ps call
 found_in d [] call h = inl h
 found_in d (p ∷ ps) call h =
     either_way (found_in (declared_with d p) ps call h)
     (λ now. either_way (declared-with d p call now) (λ e. inr (Contains-first p call ps e)) (λ old. inl old))
     (λ later. inr (Contains-later p call ps later))
 
-kept_in : (d : Declared) (ps : List KernelCall) (call : KernelCall) → is_declared d call ≡ true → is_declared (declared_by d ps) call ≡ true
+kept_in : (d : Declared) (ps : List KernelCall) (call : KernelCall)
+    → is_declared d call ≡ true → is_declared (declared_by d ps) call ≡ true
 kept_in d [] call h = h
 kept_in d (p ∷ ps) call h = kept_in (declared_with d p) ps call (with-kept d p call h)
 
-named_in : (d : Declared) (ps : List KernelCall) (call : KernelCall) (k : ℕ) → k < length ps → slice_index_or ps k call ≡ call → is_declared (declared_by d ps) call ≡ true
+named_in : (d : Declared) (ps : List KernelCall) (call : KernelCall) (k : ℕ)
+    → k < length ps → slice_index_or ps k call ≡ call → is_declared (declared_by d ps) call ≡ true
 named_in d [] call k within e = absurd (omega arith)
 named_in d (p ∷ ps) call zero within e = kept_in (declared_with d p) ps call (rw e (with-same d call))
 named_in d (p ∷ ps) call (suc k) within e = named_in (declared_with d p) ps call k (omega arith) e
 
 none-declares : (call : KernelCall) → is_declared none_declared call ≡ false
 none-declares Init = refl
-none-declares Disable = refl
-none-declares Suspend = refl
-none-declares Enable = refl
-none-declares Lock = refl
-none-declares Unlock = refl
+none-declares _ = refl
 
-pub Contains-from_declared : (ps : List KernelCall) (call : KernelCall) → is_declared (declared_by none_declared ps) call ≡ true → Contains ps call
+pub Contains-from_declared : (ps : List KernelCall) (call : KernelCall)
+    → is_declared (declared_by none_declared ps) call ≡ true → Contains ps call
 Contains-from_declared ps call h =
     let never : is_declared none_declared call ≡ false = none-declares call in
     either_way (found_in none_declared ps call h) (λ now. absurd (cc)) (λ found. found)
 
-pub declared-from_Contains : (ps : List KernelCall) (call : KernelCall) → Contains ps call → is_declared (declared_by none_declared ps) call ≡ true
+pub declared-from_Contains : (ps : List KernelCall) (call : KernelCall)
+    → Contains ps call → is_declared (declared_by none_declared ps) call ≡ true
 declared-from_Contains ps call found = named_in none_declared ps call found.0 found.1 found.2

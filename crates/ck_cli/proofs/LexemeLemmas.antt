@@ -7,7 +7,8 @@ use Rattle.std.proofs.lemmas.Slice.Eq.{bytes_eq-Decides}
 use Rattle.ck_cli.specs.declared.calls.KernelCall.{KernelCall}
 use Rattle.ck_cli.specs.declared.calls.KernelCall.TheVariants.{Init, Disable, Suspend, Enable, Lock, Unlock}
 use Rattle.ck_cli.specs.declared.lexemes.Lexeme.{Lexeme}
-use Rattle.ck_cli.specs.declared.lexemes.Lexeme.TheVariants.{Void, Int, Main, Kernel, Open, Close, LeftBrace, RightBrace, Semicolon, Other}
+use Rattle.ck_cli.specs.declared.lexemes.Lexeme.TheVariants.{Void, Int, Main, Kernel, Open, Close, LeftBrace}
+use Rattle.ck_cli.specs.declared.lexemes.Lexeme.TheVariants.{RightBrace, Semicolon, Other}
 use Rattle.ck_cli.specs.Calls.{name_of, every_call}
 use Rattle.ck_cli.specs.Lexemes.{lexeme_of}
 
@@ -26,17 +27,14 @@ word_of Other = []
 
 pub lexeme_of-name : (call : KernelCall) → lexeme_of (name_of call) ≡ Kernel call
 lexeme_of-name Init = refl
-lexeme_of-name Disable = refl
-lexeme_of-name Suspend = refl
-lexeme_of-name Enable = refl
-lexeme_of-name Lock = refl
-lexeme_of-name Unlock = refl
+lexeme_of-name _ = refl
 
 -- this is the lexeme's text, where it is one of the form
 Fits : Lexeme → List ℕ → Type 0
 Fits lexeme text = lexeme ≢ Other → text ≡ word_of lexeme
 
-fits_first : (b : Bool) (this next : Lexeme) (text : List ℕ) → (b ≡ true → text ≡ word_of this) → Fits next text → Fits (cond b this next) text
+fits_first : (b : Bool) (this next : Lexeme) (text : List ℕ)
+    → (b ≡ true → text ≡ word_of this) → Fits next text → Fits (cond b this next) text
 unfolding Fits
 fits_first true this next text holds rest = λ _. holds refl
 fits_first false this next text holds rest = rest
@@ -44,7 +42,8 @@ fits_first false this next text holds rest = rest
 FitsCall : Option KernelCall → List ℕ → Type 0
 FitsCall found text = Fits (option_map_or Kernel found Other) text
 
-fits_call : (b : Bool) (call : KernelCall) (found : Option KernelCall) (text : List ℕ) → (b ≡ true → text ≡ name_of call) → FitsCall found text → FitsCall (cond b (Some call) found) text
+fits_call : (b : Bool) (call : KernelCall) (found : Option KernelCall) (text : List ℕ)
+    → (b ≡ true → text ≡ name_of call) → FitsCall found text → FitsCall (cond b (Some call) found) text
 unfolding FitsCall Fits
 fits_call true call found text holds rest = λ _. holds refl
 fits_call false call found text holds rest = rest
@@ -81,5 +80,6 @@ lexeme_of-text text =
     (fits_first _ Semicolon _ text (same text (codes ";"))
     (fits_calls text))))))))
 
-pub word_of-lexeme : (text : List ℕ) (lexeme : Lexeme) → lexeme_of text ≡ lexeme → lexeme ≢ Other → text ≡ word_of lexeme
+pub word_of-lexeme : (text : List ℕ) (lexeme : Lexeme)
+    → lexeme_of text ≡ lexeme → lexeme ≢ Other → text ≡ word_of lexeme
 word_of-lexeme text lexeme e known = lexeme_of-text text (λ o. known (sym e ∙ o)) ∙ ap word_of e

@@ -1,4 +1,4 @@
--- The walk from its front finds the first alarm, and passes where there is none.
+-- The walk from its prefix finds the first alarm, and passes where there is none.
 use Rattle.std.proofs.Common.{◌≡◌, List, [], ◌∷◌, ◌++◌, Option, Some, None, refl, sym, ap, ◌∙◌, append_assoc}
 use Rattle.std.specs.Prelude.{option_and_then}
 use Rattle.std.proofs.lemmas.List.{append-nil}
@@ -10,7 +10,8 @@ use Rattle.ck_base.specs.declared.states.Outcome.TheVariants.{Next, Alarm, End}
 use Rattle.ck_base.specs.Act.{act}
 use Rattle.ck_cli.specs.declared.form.Call.{Call}
 use Rattle.ck_cli.specs.Calls.{op_of}
-use Rattle.ck_cli.specs.Walk.{next_state, state_after, Alarms, Passes}
+use Rattle.ck_base.specs.Act.{next_state}
+use Rattle.ck_cli.specs.Walk.{state_after, Alarms, Passes}
 use Rattle.ck_cli.specs.Walking.{walk, walk_on}
 
 abbrev pub found : List Call → Call → Kind → Option (List Call × Call × Kind)
@@ -33,7 +34,12 @@ found-parts a b c d j k e =
     let same : x ≡ y = cc in
     (ap (λ z. z.0) same, ap (λ z. z.1) same, ap (λ z. z.2) same)
 
-walk_on-found : (start : State) (earlier calls before : List Call) (c call : Call) (kind : Kind) (outcome : Outcome) → act (op_of c.call) start ≡ outcome → ((next : State) → walk next (earlier ++ c ∷ []) calls ≡ found before call kind → AlarmsFrom next (earlier ++ c ∷ []) calls before call kind) → walk_on outcome (λ next. walk next (earlier ++ c ∷ []) calls) earlier c ≡ found before call kind → AlarmsFrom start earlier (c ∷ calls) before call kind
+walk_on-found : (start : State) (earlier calls before : List Call) (c call : Call) (kind : Kind) (outcome : Outcome)
+    → act (op_of c.call) start ≡ outcome
+    → ((next : State) → walk next (earlier ++ c ∷ []) calls ≡ found before call kind → AlarmsFrom next
+    (earlier ++ c ∷ []) calls before call kind)
+    → walk_on outcome (λ next. walk next (earlier ++ c ∷ []) calls) earlier c ≡ found before call kind
+    → AlarmsFrom start earlier (c ∷ calls) before call kind
 walk_on-found start earlier calls before c call kind (Next next) acts rest h =
     let later = rest next h in
     record {
@@ -58,12 +64,15 @@ walk_on-found start earlier calls before c call kind (Alarm k) acts rest h =
     }
 walk_on-found start earlier calls before c call kind End acts rest h = absurd (cc)
 
-walk-found : (start : State) (earlier calls before : List Call) (call : Call) (kind : Kind) → walk start earlier calls ≡ found before call kind → AlarmsFrom start earlier calls before call kind
+walk-found : (start : State) (earlier calls before : List Call) (call : Call) (kind : Kind)
+    → walk start earlier calls ≡ found before call kind → AlarmsFrom start earlier calls before call kind
 walk-found start earlier [] before call kind h = absurd (cc)
 walk-found start earlier (c ∷ calls) before call kind h =
-    walk_on-found start earlier calls before c call kind (act (op_of c.call) start) refl (λ next. walk-found next (earlier ++ c ∷ []) calls before call kind) h
+    walk_on-found start earlier calls before c call kind (act (op_of c.call) start) refl
+    (λ next. walk-found next (earlier ++ c ∷ []) calls before call kind) h
 
-pub Alarms-from_walk : (calls before : List Call) (call : Call) (kind : Kind) → walk TI [] calls ≡ found before call kind → Alarms calls before call kind
+pub Alarms-from_walk : (calls before : List Call) (call : Call) (kind : Kind)
+    → walk TI [] calls ≡ found before call kind → Alarms calls before call kind
 Alarms-from_walk calls before call kind h =
     let alarms = walk-found TI [] calls before call kind h in
     record {
@@ -75,53 +84,79 @@ Alarms-from_walk calls before call kind h =
     }
 
 -- no alarm
-goes_on-none : (earlier calls passed after : List Call) (c call : Call) (kind : Kind) (state : State) (outcome : Outcome) → walk_on outcome (λ next. walk next (earlier ++ c ∷ []) calls) earlier c ≡ None → option_and_then (λ next. state_after next passed) (next_state outcome) ≡ Some state → ((next : State) → walk next (earlier ++ c ∷ []) calls ≡ None → state_after next passed ≡ Some state → ⊥) → ⊥
+goes_on-none : (earlier calls passed after : List Call) (c call : Call) (kind : Kind) (state : State)
+    (outcome : Outcome)
+    → walk_on outcome (λ next. walk next (earlier ++ c ∷ []) calls) earlier c ≡ None
+    → option_and_then (λ next. state_after next passed) (next_state outcome) ≡ Some state
+    → ((next : State) → walk next (earlier ++ c ∷ []) calls ≡ None → state_after next passed ≡ Some state → ⊥) → ⊥
 goes_on-none earlier calls passed after c call kind state (Next next) h reached rest = rest next h reached
 goes_on-none earlier calls passed after c call kind state (Alarm k) h reached rest = cc
 goes_on-none earlier calls passed after c call kind state End h reached rest = cc
 
-walk-none : (start : State) (earlier calls passed after : List Call) (call : Call) (kind : Kind) (state : State) → walk start earlier calls ≡ None → calls ≡ passed ++ call ∷ after → state_after start passed ≡ Some state → act (op_of call.call) state ≡ Alarm kind → ⊥
+walk-none : (start : State) (earlier calls passed after : List Call) (call : Call) (kind : Kind) (state : State)
+    → walk start earlier calls ≡ None → calls ≡ passed ++ call ∷ after → state_after start passed ≡ Some state
+    → act (op_of call.call) state ≡ Alarm kind → ⊥
 walk-none start earlier [] [] after call kind state h split reached alarm = cc
 walk-none start earlier [] (p ∷ passed) after call kind state h split reached alarm = cc
 walk-none start earlier (c ∷ calls) [] after call kind state h split reached alarm =
     let same : c ≡ call = cc in
     let here : start ≡ state = cc in
-    let acts : act (op_of c.call) start ≡ Alarm kind = ap (λ x. act (op_of x.call) start) same ∙ (ap (act (op_of call.call)) here ∙ alarm) in
-    let stops : walk_on (act (op_of c.call) start) (λ next. walk next (earlier ++ c ∷ []) calls) earlier c ≡ found earlier c kind = ap (λ o. walk_on o (λ next. walk next (earlier ++ c ∷ []) calls) earlier c) acts in
+    let acts : act (op_of c.call) start ≡ Alarm kind = ap (λ x. act (op_of x.call) start) same ∙
+    (ap (act (op_of call.call)) here ∙ alarm) in
+    let stops : walk_on (act (op_of c.call) start) (λ next. walk next (earlier ++ c ∷ []) calls) earlier c ≡ found
+    earlier c kind = ap (λ o. walk_on o (λ next. walk next (earlier ++ c ∷ []) calls) earlier c) acts in
     cc
 walk-none start earlier (c ∷ calls) (p ∷ passed) after call kind state h split reached alarm =
     let same : c ≡ p = cc in
     let rest : calls ≡ passed ++ call ∷ after = cc in
-    goes_on-none earlier calls passed after c call kind state (act (op_of c.call) start) h (ap (λ x. option_and_then (λ next. state_after next passed) (next_state (act (op_of x.call) start))) same ∙ reached)
-    (λ next on reached_on. walk-none next (earlier ++ c ∷ []) calls passed after call kind state on rest reached_on alarm)
+    goes_on-none earlier calls passed after c call kind state (act (op_of c.call) start) h
+    (ap (λ x. option_and_then (λ next. state_after next passed) (next_state (act (op_of x.call) start))) same ∙ reached)
+    (λ next on reached_on. walk-none next (earlier ++ c ∷ []) calls passed after call kind state on rest reached_on
+    alarm)
 
 pub Passes-from_walk : (calls : List Call) → walk TI [] calls ≡ None → Passes calls
-Passes-from_walk calls h before call kind alarms = walk-none TI [] calls before alarms.after call kind alarms.state h alarms.split alarms.reached alarms.alarm
+Passes-from_walk calls h before call kind alarms =
+    walk-none TI [] calls before alarms.after call kind alarms.state h alarms.split alarms.reached alarms.alarm
 
 -- an alarm is found
-goes_on-found : (earlier calls passed : List Call) (c call : Call) (kind : Kind) (state : State) (outcome : Outcome) → option_and_then (λ next. state_after next passed) (next_state outcome) ≡ Some state → ((next : State) → state_after next passed ≡ Some state → walk next (earlier ++ c ∷ []) calls ≡ found ((earlier ++ c ∷ []) ++ passed) call kind) → walk_on outcome (λ next. walk next (earlier ++ c ∷ []) calls) earlier c ≡ found ((earlier ++ c ∷ []) ++ passed) call kind
+goes_on-found : (earlier calls passed : List Call) (c call : Call) (kind : Kind) (state : State) (outcome : Outcome)
+    → option_and_then (λ next. state_after next passed) (next_state outcome) ≡ Some state
+    → ((next : State) → state_after next passed ≡ Some state → walk next (earlier ++ c ∷ []) calls ≡ found
+    ((earlier ++ c ∷ []) ++ passed) call kind)
+    → walk_on outcome (λ next. walk next (earlier ++ c ∷ []) calls) earlier c ≡ found
+    ((earlier ++ c ∷ []) ++ passed) call kind
 goes_on-found earlier calls passed c call kind state (Next next) reached rest = rest next reached
 goes_on-found earlier calls passed c call kind state (Alarm k) reached rest = absurd (cc)
 goes_on-found earlier calls passed c call kind state End reached rest = absurd (cc)
 
-walk-complete : (start : State) (earlier calls passed after : List Call) (call : Call) (kind : Kind) (state : State) → calls ≡ passed ++ call ∷ after → state_after start passed ≡ Some state → act (op_of call.call) state ≡ Alarm kind → walk start earlier calls ≡ found (earlier ++ passed) call kind
+walk-complete : (start : State) (earlier calls passed after : List Call) (call : Call) (kind : Kind) (state : State)
+    → calls ≡ passed ++ call ∷ after → state_after start passed ≡ Some state → act (op_of call.call) state ≡ Alarm kind
+    → walk start earlier calls ≡ found (earlier ++ passed) call kind
 walk-complete start earlier [] [] after call kind state split reached alarm = absurd (cc)
 walk-complete start earlier [] (p ∷ passed) after call kind state split reached alarm = absurd (cc)
 walk-complete start earlier (c ∷ calls) [] after call kind state split reached alarm =
     let same : c ≡ call = cc in
     let here : start ≡ state = cc in
-    let acts : act (op_of c.call) start ≡ Alarm kind = ap (λ x. act (op_of x.call) start) same ∙ (ap (act (op_of call.call)) here ∙ alarm) in
-    ap (λ o. walk_on o (λ next. walk next (earlier ++ c ∷ []) calls) earlier c) acts ∙ (ap (λ x. found earlier x kind) same ∙ ap (λ b. found b call kind) (sym (append-nil earlier)))
+    let acts : act (op_of c.call) start ≡ Alarm kind = ap (λ x. act (op_of x.call) start) same ∙
+    (ap (act (op_of call.call)) here ∙ alarm) in
+    ap (λ o. walk_on o (λ next. walk next (earlier ++ c ∷ []) calls) earlier c) acts ∙
+    (ap (λ x. found earlier x kind) same ∙ ap (λ b. found b call kind) (sym (append-nil earlier)))
 walk-complete start earlier (c ∷ calls) (p ∷ passed) after call kind state split reached alarm =
     let same : c ≡ p = cc in
     let rest : calls ≡ passed ++ call ∷ after = cc in
-    goes_on-found earlier calls passed c call kind state (act (op_of c.call) start) (ap (λ x. option_and_then (λ next. state_after next passed) (next_state (act (op_of x.call) start))) same ∙ reached)
-    (λ next reached_on. walk-complete next (earlier ++ c ∷ []) calls passed after call kind state rest reached_on alarm) ∙
+    goes_on-found earlier calls passed c call kind state (act (op_of c.call) start)
+    (ap (λ x. option_and_then (λ next. state_after next passed) (next_state (act (op_of x.call) start))) same ∙ reached)
+    (λ next reached_on. walk-complete next (earlier ++ c ∷ []) calls passed after call kind state rest reached_on
+    alarm) ∙
     ap (λ b. found b call kind) (append_assoc earlier (c ∷ []) passed ∙ ap (λ x. earlier ++ x ∷ passed) same)
 
-walk-from_Alarms : (calls before : List Call) (call : Call) (kind : Kind) → Alarms calls before call kind → walk TI [] calls ≡ found before call kind
-walk-from_Alarms calls before call kind alarms = walk-complete TI [] calls before alarms.after call kind alarms.state alarms.split alarms.reached alarms.alarm
+walk-from_Alarms : (calls before : List Call) (call : Call) (kind : Kind)
+    → Alarms calls before call kind → walk TI [] calls ≡ found before call kind
+walk-from_Alarms calls before call kind alarms =
+    walk-complete TI [] calls before alarms.after call kind alarms.state alarms.split alarms.reached alarms.alarm
 
 -- the first alarm is the one alarm
-pub Alarms-one : (calls a b : List Call) (c d : Call) (j k : Kind) → Alarms calls a c j → Alarms calls b d k → (a ≡ b) × (c ≡ d) × (j ≡ k)
-Alarms-one calls a b c d j k first second = found-parts a b c d j k (sym (walk-from_Alarms calls a c j first) ∙ walk-from_Alarms calls b d k second)
+pub Alarms-one : (calls a b : List Call) (c d : Call) (j k : Kind)
+    → Alarms calls a c j → Alarms calls b d k → (a ≡ b) × (c ≡ d) × (j ≡ k)
+Alarms-one calls a b c d j k first second =
+    found-parts a b c d j k (sym (walk-from_Alarms calls a c j first) ∙ walk-from_Alarms calls b d k second)

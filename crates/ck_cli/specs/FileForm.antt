@@ -1,10 +1,11 @@
 -- The file form: any number of prototypes, then `main` with any number of calls, each of a call that has a
 -- prototype. docs/REPORT.md, "The file that is read", has it in words.
-use Rattle.std.specs.Prelude.{◌≡◌, ℕ, ◌+◌, ◌*◌, List, [], ◌∷◌, ◌++◌, map, length, codes, slice_index, slice_range, All, Contains}
+use Rattle.std.specs.Prelude.{◌≡◌, ℕ, ◌+◌, ◌*◌, List, [], ◌∷◌, ◌++◌, map, length, codes, slice_index, All, Contains}
 use Rattle.std.specs.List.{flat_map}
 use Rattle.ck_base.specs.declared.tokens.Token.{Token}
 use Rattle.ck_cli.specs.declared.calls.KernelCall.{KernelCall}
 use Rattle.ck_cli.specs.declared.form.Call.{Call}
+use Rattle.ck_base.specs.TokenText.{text_of}
 use Rattle.ck_cli.specs.Calls.{name_of}
 
 pub record FileForm : Type 0 where
@@ -35,10 +36,7 @@ spelling form = flat_map prototype form.prototypes ++ (opening ++ (flat_map stat
 abbrev pub IsDeclared : FileForm → Type 0
 IsDeclared form = All (Contains form.prototypes) form.calls
 
--- a token's text: the bytes of its span
-abbrev pub text_of : List ℕ → Token → List ℕ
-text_of bytes t = slice_range bytes t.span.start t.span.end
-
+-- the texts of tokens of some bytes
 abbrev pub texts_of : List ℕ → List Token → List (List ℕ)
 texts_of bytes tokens = map (text_of bytes) tokens
 
@@ -58,7 +56,8 @@ main_start form tokens = token_start tokens (6 * length form.prototypes + 1)
 -- calls with the offsets at which they begin, where the first of them begins with the n-th token
 abbrev pub calls_from : List Token → ℕ → List KernelCall → List Call
 calls_from tokens n [] = []
-calls_from tokens n (call ∷ calls) = record { call = call; start = token_start tokens n } ∷ calls_from tokens (n + 4) calls
+calls_from tokens n (call ∷ calls) =
+    record { call = call; start = token_start tokens n } ∷ calls_from tokens (n + 4) calls
 
 -- the file's calls with the offsets at which they begin
 abbrev pub made_calls : FileForm → List Token → List Call

@@ -3,7 +3,7 @@
 use Rattle.std.specs.Prelude.{◌≡◌, ℕ, pos, List, [], ◌∷◌, None, map}
 use Rattle.ck_base.specs.declared.ops.Op.{Op}
 use Rattle.ck_base.specs.declared.tokens.Token.{Token}
-use Rattle.ck_base.specs.Counters.{Counters, counters, kernel_halt, counters_after}
+use Rattle.ck_base.specs.Counters.{Counters, counters, halt_of, moved}
 use Rattle.ck_lexer.specs.Tokens.{AreTokens}
 use Rattle.ck_cli.specs.FileForm.{FileForm, Spells}
 use Rattle.ck_cli.specs.Calls.{op_of}
@@ -11,7 +11,7 @@ use Rattle.ck_cli.specs.Calls.{op_of}
 -- no check of the kernel halts at any of these calls, taken in order from these counters
 abbrev pub HaltsNowhere : Counters → List Op → Type 0
 HaltsNowhere c [] = Unit {0}
-HaltsNowhere c (op ∷ ops) = (kernel_halt op c ≡ None) × HaltsNowhere (counters_after op c) ops
+HaltsNowhere c (op ∷ ops) = (halt_of op c ≡ None) × HaltsNowhere (moved op c) ops
 
 -- lock_cnt and isr_cnt begin at 0
 abbrev pub KernelHaltsNowhere : FileForm → Type 0

@@ -1,10 +1,11 @@
--- What a token is to the reader, by its text. Private contracts alone speak of it; proofs/LexemeLemmas.antt joins it with
+-- What a token is to the reader, by its text. proofs/LexemeLemmas.antt joins it with
 -- FileForm.
 use Rattle.std.specs.Prelude.{ℕ, List, codes, find, if◌then◌else◌}
 use Rattle.std.specs.Option.{option_map_or}
 use Rattle.std.specs.Str.{bytes_eq}
 use Rattle.ck_cli.specs.declared.lexemes.Lexeme.{Lexeme}
-use Rattle.ck_cli.specs.declared.lexemes.Lexeme.TheVariants.{Void, Int, Main, Kernel, Open, Close, LeftBrace, RightBrace, Semicolon, Other}
+use Rattle.ck_cli.specs.declared.lexemes.Lexeme.TheVariants.{Void, Int, Main, Kernel, Open, Close, LeftBrace}
+use Rattle.ck_cli.specs.declared.lexemes.Lexeme.TheVariants.{RightBrace, Semicolon, Other}
 use Rattle.ck_cli.specs.Calls.{name_of, every_call}
 
 abbrev pub lexeme_of : List ℕ → Lexeme

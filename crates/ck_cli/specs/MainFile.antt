@@ -1,9 +1,11 @@
--- What was found of main.i in a folder. Private contracts alone speak of it; proofs/AnswerLemmas.antt joins it with Door.
+-- What was found of main.i in a folder. proofs/AnswerLemmas.antt joins it with Answer.
 use Rattle.std.specs.Prelude.{◌≡◌, ◌≤◌, ◌<◌, ℕ, List, length, Option, Some}
 use Rattle.ck_io.specs.Environment.{Files, names_of, bytes_of}
 use Rattle.ck_cli.specs.declared.project.MainFile.{MainFile}
 use Rattle.ck_cli.specs.declared.project.MainFile.TheVariants.{Missing, TooLarge, Read}
-use Rattle.ck_cli.specs.Door.{HasJustMain, main_name, most_bytes, AreTold}
+use Rattle.ck_cli.specs.Answer.{HasJustMain, main_name}
+use Rattle.ck_cli.specs.Promise.{AreTold}
+use Rattle.ck_cli.specs.Verdict.{most_bytes}
 
 pub record IsMissing (told : Option Files) : Type 0 where
   pub files : Files

@@ -1,4 +1,4 @@
--- What a reader holds, as plain values. Private contracts alone speak of it.
+-- What a reader holds, as plain values.
 use Rattle.ck_cli.specs.declared.form.Reader.{Reader}
 use Rattle.ck_cli.specs.Reading.{Progress}
 

@@ -1,6 +1,7 @@
--- How the file form is read, token by token. Private contracts alone speak of it; proofs/FormSound.antt and
+-- How the file form is read, token by token. proofs/FormSound.antt and
 -- proofs/FormComplete.antt join it with FileForm and Stray, in both directions.
-use Rattle.std.specs.Prelude.{◌≡◌, ◌<◌, ℕ, ◌+◌, Bool, true, false, List, [], ◌∷◌, ◌++◌, length, take, Option, Some, None, option_and_then, if◌then◌else◌}
+use Rattle.std.specs.Prelude.{◌≡◌, ◌<◌, ℕ, ◌+◌, Bool, true, false, List, [], ◌∷◌, ◌++◌, length, take, Option, Some}
+use Rattle.std.specs.Prelude.{None, option_and_then, if◌then◌else◌}
 use Rattle.ck_base.specs.declared.tokens.Token.{Token}
 use Rattle.ck_cli.specs.declared.calls.KernelCall.{KernelCall}
 use Rattle.ck_cli.specs.declared.calls.KernelCall.TheVariants.{Init, Disable, Suspend, Enable, Lock, Unlock}
@@ -11,10 +12,14 @@ use Rattle.ck_cli.specs.declared.form.Reading.TheVariants.{Form, Stray}
 use Rattle.ck_cli.specs.declared.lexemes.Lexeme.{Lexeme}
 use Rattle.ck_cli.specs.declared.lexemes.Lexeme.TheVariants as L
 use Rattle.ck_cli.specs.declared.position.Position.{Position}
-use Rattle.ck_cli.specs.declared.position.Position.TheVariants.{Outside, PrototypeName, PrototypeOpen, PrototypeVoid, PrototypeClose, PrototypeEnd, MainName, MainOpen, MainVoid, MainClose, MainBrace, Body, CallOpen, CallClose, CallEnd, End}
+use Rattle.ck_cli.specs.declared.position.Position.TheVariants.{Outside, PrototypeName, PrototypeOpen, PrototypeVoid}
+use Rattle.ck_cli.specs.declared.position.Position.TheVariants.{PrototypeClose, PrototypeEnd, MainName, MainOpen}
+use Rattle.ck_cli.specs.declared.position.Position.TheVariants.{MainVoid, MainClose, MainBrace, Body, CallOpen}
+use Rattle.ck_cli.specs.declared.position.Position.TheVariants.{CallClose, CallEnd, End}
 use Rattle.ck_cli.specs.declared.position.Role.{Role}
 use Rattle.ck_cli.specs.declared.position.Role.TheVariants as R
-use Rattle.ck_cli.specs.FileForm.{text_of, token_start}
+use Rattle.ck_base.specs.TokenText.{text_of}
+use Rattle.ck_cli.specs.FileForm.{token_start}
 use Rattle.ck_cli.specs.Lexemes.{lexeme_of}
 
 -- which calls have a prototype
@@ -81,15 +86,19 @@ beginning = record { position = Outside; declared = none_declared; main = 0; cal
 
 -- with a token of this role that begins at an offset, at a new position
 abbrev pub noted : Role → ℕ → Position → Progress → Option Progress
-noted (R.Prototype call) start next p = Some (record { position = next; declared = declared_with p.declared call; main = p.main; calls = p.calls })
+noted (R.Prototype call) start next p =
+    Some (record { position = next; declared = declared_with p.declared call; main = p.main; calls = p.calls })
 noted R.Main start next p = Some (record { position = next; declared = p.declared; main = start; calls = p.calls })
 noted (R.Call call) start next p =
-    if is_declared p.declared call then Some (record { position = next; declared = p.declared; main = p.main; calls = p.calls ++ record { call = call; start = start } ∷ [] }) else None
+    if is_declared p.declared call
+    then Some (record p { position = next; calls = p.calls ++ record { call = call; start = start } ∷ [] })
+    else None
 noted R.Other start next p = Some (record { position = next; declared = p.declared; main = p.main; calls = p.calls })
 
 -- with a token more, where a file of the form can go on after it
 abbrev pub after : Progress → Lexeme → ℕ → Option Progress
-after p lexeme start = option_and_then (λ next. noted (role_at p.position lexeme) start next p) (next_position p.position lexeme)
+after p lexeme start =
+    option_and_then (λ next. noted (role_at p.position lexeme) start next p) (next_position p.position lexeme)
 
 -- over the tokens of some bytes
 abbrev pub over : List ℕ → List Token → Progress → Option Progress
@@ -103,5 +112,8 @@ IsEnded p offset (Stray start) = (p.position ≡ End → ⊥) × (start ≡ offs
 
 -- what the tokens of some bytes are read as: to their end, or up to one that can't be read
 pub data IsReading (bytes : List ℕ) (tokens : List Token) (reading : Reading) : Type 0 where
-  whole : (p : Progress) → over bytes tokens beginning ≡ Some p → IsEnded p (length bytes) reading → IsReading bytes tokens reading
-  stopped : (n : ℕ) (p : Progress) → n < length tokens → over bytes (take n tokens) beginning ≡ Some p → over bytes (take (n + 1) tokens) beginning ≡ None → reading ≡ Stray (token_start tokens n) → IsReading bytes tokens reading
+  whole : (p : Progress) → over bytes tokens beginning ≡ Some p → IsEnded p (length bytes) reading
+      → IsReading bytes tokens reading
+  stopped : (n : ℕ) (p : Progress) → n < length tokens → over bytes (take n tokens) beginning ≡ Some p
+      → over bytes (take (n + 1) tokens) beginning ≡ None → reading ≡ Stray (token_start tokens n)
+      → IsReading bytes tokens reading

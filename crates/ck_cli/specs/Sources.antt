@@ -1,4 +1,4 @@
--- A source whose places are those of its bytes. Private contracts alone speak of it.
+-- A source whose places are those of its bytes.
 use Rattle.std.specs.Prelude.{◌≤◌, List, length, codes, All}
 use Rattle.ck_lexer.specs.PlaceMaps.{IsPlaceMapOf}
 use Rattle.ck_cli.specs.declared.form.Call.{Call}

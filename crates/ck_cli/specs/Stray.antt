@@ -14,6 +14,8 @@ pub record CanGoOn (texts : List (List ℕ)) : Type 0 where
 -- tokens that are no file of the form stop being one at this offset
 pub data IsStray (bytes : List ℕ) (tokens : List Token) : ℕ → Type 0 where
   -- a file of the form can go on after the first n tokens, and not after one more
-  at_token : (n : ℕ) → n < length tokens → CanGoOn (texts_of bytes (take n tokens)) → (CanGoOn (texts_of bytes (take (n + 1) tokens)) → ⊥) → IsStray bytes tokens (token_start tokens n)
-  -- it can go on after all of them, and they are none
-  at_end : CanGoOn (texts_of bytes tokens) → ((form : FileForm) → Spells form bytes tokens → ⊥) → IsStray bytes tokens (length bytes)
+  at_token : (n : ℕ) → n < length tokens → CanGoOn (texts_of bytes (take n tokens))
+      → (CanGoOn (texts_of bytes (take (n + 1) tokens)) → ⊥) → IsStray bytes tokens (token_start tokens n)
+  -- it can go on after all of them, and they are none: at the file's end
+  at_end : CanGoOn (texts_of bytes tokens) → ((form : FileForm) → Spells form bytes tokens → ⊥)
+      → IsStray bytes tokens (length bytes)

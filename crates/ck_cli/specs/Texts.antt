@@ -29,10 +29,11 @@ accepted_text = first_line ++ (line (codes "accepted") ++ line (codes "files 1 f
 abbrev pub place_text : Place → List ℕ
 place_text place = place.name ++ (codes ":" ++ (decimal place.line ++ (codes ":" ++ decimal place.column)))
 
--- `place` is what stands for the refusal's place
+-- `place` is what is printed for the refusal's place
 abbrev pub unsupported_text : Unsupported → List ℕ → List ℕ
 unsupported_text kind place =
-    first_line ++ line (codes "unsupported U" ++ (decimal (refusal_number kind) ++ (codes " " ++ (place ++ (codes " " ++ refusal_words kind)))))
+    first_line ++ line (codes "unsupported U" ++ (decimal (refusal_number kind) ++
+    (codes " " ++ (place ++ (codes " " ++ refusal_words kind)))))
 
 -- the end of a line that has a place and a name
 abbrev pub at_place : Place → List ℕ → List ℕ
@@ -52,7 +53,8 @@ alarm_line c kind = codes "alarm 1 " ++ (kind_text kind ++ at_place c.place (nam
 
 -- the way from the entry into `main`
 abbrev pub entry_lines : Place → List ℕ
-entry_lines main = line (codes "entry main") ++ (line (codes "segment 1 [main]") ++ (codes "  enter" ++ at_place main (codes "main")))
+entry_lines main =
+    line (codes "entry main") ++ (line (codes "segment 1 [main]") ++ (codes "  enter" ++ at_place main (codes "main")))
 
 -- an alarm, with the walk to it: from the entry through `main` over the calls before it
 abbrev pub rejected_text : Place → List PlacedCall → PlacedCall → Kind → List ℕ

@@ -1,19 +1,13 @@
 -- The walk of a file: it starts in the state TI and takes what the state table says of each call in order.
 -- docs/STATES.md, "The state table".
-use Rattle.std.specs.Prelude.{◌≡◌, List, [], ◌∷◌, ◌++◌, Option, Some, None, option_and_then}
+use Rattle.std.specs.Prelude.{◌≡◌, List, [], ◌∷◌, ◌++◌, Option, Some, option_and_then}
 use Rattle.ck_base.specs.declared.states.State.{State}
 use Rattle.ck_base.specs.declared.states.State.TheVariants.{TI}
 use Rattle.ck_base.specs.declared.states.Kind.{Kind}
-use Rattle.ck_base.specs.declared.states.Outcome.{Outcome}
-use Rattle.ck_base.specs.declared.states.Outcome.TheVariants.{Next, Alarm}
-use Rattle.ck_base.specs.Act.{act}
+use Rattle.ck_base.specs.declared.states.Outcome.TheVariants.{Alarm}
+use Rattle.ck_base.specs.Act.{act, next_state}
 use Rattle.ck_cli.specs.declared.form.Call.{Call}
 use Rattle.ck_cli.specs.Calls.{op_of}
-
--- the state in which a thread goes on
-abbrev pub next_state : Outcome → Option State
-next_state (Next next) = Some next
-next_state _ = None
 
 -- the state after calls that a thread makes one after the other, where each of them is allowed
 abbrev pub state_after : State → List Call → Option State

@@ -1,4 +1,4 @@
--- The walk from its front: the first alarm, with the calls before it. Private contracts alone speak of it;
+-- The walk from its first call on: the first alarm, with the calls before it.
 -- proofs/WalkLemmas.antt joins it with Walk.
 use Rattle.std.specs.Prelude.{List, [], ◌∷◌, ◌++◌, Option, Some, None}
 use Rattle.ck_base.specs.declared.states.State.{State}
@@ -9,7 +9,8 @@ use Rattle.ck_base.specs.Act.{act}
 use Rattle.ck_cli.specs.declared.form.Call.{Call}
 use Rattle.ck_cli.specs.Calls.{op_of}
 
-abbrev pub walk_on : Outcome → (State → Option (List Call × Call × Kind)) → List Call → Call → Option (List Call × Call × Kind)
+abbrev pub walk_on : Outcome
+    → (State → Option (List Call × Call × Kind)) → List Call → Call → Option (List Call × Call × Kind)
 walk_on (Next next) on before c = on next
 walk_on (Alarm kind) on before c = Some (before, c, kind)
 walk_on End on before c = None

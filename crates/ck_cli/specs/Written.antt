@@ -1,4 +1,4 @@
--- What was added to a text. Private contracts alone speak of it.
+-- What was added to a text.
 use Rattle.std.specs.Prelude.{◌≡◌, ℕ, List, ◌++◌}
 use Rattle.std.specs.List.{flat_map}
 use Rattle.ck_cli.specs.declared.form.Call.{Call}

@@ -1,13 +1,12 @@
-//! What a file is answered.
+//! The answer to a folder's files.
 ghost use Rattle.std.specs.Prelude.{◌≡◌, ◌≢◌, ◌≤◌, length, IfOk};
 ghost use Rattle.ck_io.specs.Environment.{Rose};
 ghost use Rattle.ck_lexer.specs.Tokens.{AreTokens, IsFirstFault};
-ghost use Rattle.ck_cli.specs.Door.{Answers};
 ghost use Rattle.ck_cli.specs.Placed.{IsRefusalText};
+ghost use Rattle.ck_cli.specs.Promise.{Answers};
 ghost use Rattle.ck_cli.specs.Sources.{AreWithin, HasPlaces};
 ghost use Rattle.ck_cli.specs.Texts.{unsupported_text};
-ghost use Rattle.ck_cli.specs.Verdict.{IsVerdict};
-ghost use Rattle.ck_cli.specs.Statuses.{status_code};
+ghost use Rattle.ck_cli.specs.Verdict.{IsVerdict, most_bytes};
 ghost use Rattle.ck_cli.specs.Walked.{IsWalked};
 
 use crate::form::{Form, Reading, read};
@@ -21,31 +20,61 @@ use ck_io::Folder;
 use ck_lexer::lex;
 use std::alloc::Global;
 
-/// A status and a text.
+/// A status and the whole text of the report.
 #[derive(Drop)]
-pub struct Answer {
-    pub status: Status,
-    pub text: Vec<u8>,
+pub(crate) struct Answer {
+    pub(crate) status: Status,
+    pub(crate) text: Vec<u8>,
 }
 
-/// What the bytes of a file are answered, of which there are at most 1,048,576.
-pub fn verdict(alloc: Global, bytes: &[u8]) -> Result<Answer, OutOfMemory>
-    requires { length bytes.now ≤ 1048576 }
-    ensures { IfOk result (λ answer. IsVerdict bytes.now (status_code answer.status) answer.text.items) }
+/// The answer to the files of a folder.
+pub(crate) fn answer_of<F: Folder>(alloc: Global, folder: &mut F) -> Result<Answer, Stop>
+    ensures kept { F.told folder.new ≡ F.told folder.old }
+    ensures counted { F.faults folder.old ≤ F.faults folder.new }
+    ensures answers { IfOk result (λ a. Answers (F.told folder.old) a.status a.text.items) }
+    ensures fault { result ≡ Err Stop.ReadFault → Rose (F.faults folder.old) (F.faults folder.new) }
+    ensures no_fault { (result ≢ Err Stop.ReadFault) → F.faults folder.new ≡ F.faults folder.old }
+{
+    match main_file(alloc, folder)? {
+        MainFile::Missing => Ok(refused(alloc, Unsupported::U23, "-")?),
+        MainFile::TooLarge => Ok(refused(alloc, Unsupported::U25, MAIN)?),
+        MainFile::Read(bytes) => Ok(verdict(alloc, &bytes)?),
+    }
+}
+
+/// The answer of a refusal at no byte of a file. `place` is what the report has for its place.
+fn refused(alloc: Global, kind: Unsupported, place: &str) -> Result<Answer, OutOfMemory>
+    ensures { IfOk result (λ a. (a.status ≡ Status.Refused) × (a.text.items ≡ unsupported_text kind place.now)) }
+{
+    let text = unsupported(alloc, kind, place.as_bytes())?;
+    Ok(Answer {
+        status: Status::Refused,
+        text,
+    })
+}
+
+/// The verdict on the bytes of a file, of which there are at most 1,048,576.
+fn verdict(alloc: Global, bytes: &[u8]) -> Result<Answer, OutOfMemory>
+    requires { length bytes.now ≤ most_bytes }
+    ensures { IfOk result (λ a. IsVerdict bytes.now a.status a.text.items) }
 {
     let source = Source::new(alloc, bytes)?;
     match lex(alloc, 0, bytes) {
-        Ok(tokens) => of_tokens(alloc, &source, &tokens),
-        Err(Fault::Unsupported(refusal)) => faulty(alloc, &source, refusal),
+        Ok(tokens) => verdict_on_tokens(alloc, &source, &tokens),
+        Err(Fault::Unsupported(refusal)) => verdict_on_fault(alloc, &source, refusal),
         Err(Fault::Memory) => Err(OutOfMemory),
     }
 }
 
-/// What a file with a fault is answered, of which this is the first.
-fn faulty(alloc: Global, source: &Source<'_>, refusal: Refusal) -> Result<Answer, OutOfMemory>
+/// The verdict on a file whose first fault is this one.
+fn verdict_on_fault(
+    alloc: Global,
+    source: &Source<'_>,
+    refusal: Refusal,
+) -> Result<Answer, OutOfMemory>
     requires places { HasPlaces source.now }
     requires first { IsFirstFault 0 source.now.bytes.now refusal }
-    ensures { IfOk result (λ answer. IsVerdict source.now.bytes.now (status_code answer.status) answer.text.items) }
+    ensures { IfOk result (λ a. IsVerdict source.now.bytes.now a.status a.text.items) }
 {
     match refusal.at {
         Spot::At(span) => refused_at(alloc, source, refusal.kind, span.start),
@@ -53,43 +82,29 @@ fn faulty(alloc: Global, source: &Source<'_>, refusal: Refusal) -> Result<Answer
     }
 }
 
-/// What a file of these tokens is answered.
-fn of_tokens(alloc: Global, source: &Source<'_>, tokens: &[Token]) -> Result<Answer, OutOfMemory>
+/// The verdict on a file of these tokens.
+fn verdict_on_tokens(
+    alloc: Global,
+    source: &Source<'_>,
+    tokens: &[Token],
+) -> Result<Answer, OutOfMemory>
     requires places { HasPlaces source.now }
-    requires short { length source.now.bytes.now ≤ 1048576 }
+    requires short { length source.now.bytes.now ≤ most_bytes }
     requires of_source { AreTokens 0 source.now.bytes.now tokens.now }
-    ensures { IfOk result (λ answer. IsVerdict source.now.bytes.now (status_code answer.status) answer.text.items) }
+    ensures { IfOk result (λ a. IsVerdict source.now.bytes.now a.status a.text.items) }
 {
     match read(alloc, source.bytes, tokens)? {
-        Reading::Form(form) => walked(alloc, source, &form),
+        Reading::Form(form) => verdict_on_form(alloc, source, &form),
         Reading::Stray(offset) => refused_at(alloc, source, Unsupported::U7, offset),
     }
 }
 
-/// The answer of a refusal at an offset of the file.
-fn refused_at(
-    alloc: Global,
-    source: &Source<'_>,
-    kind: Unsupported,
-    offset: u32,
-) -> Result<Answer, OutOfMemory>
-    requires places { HasPlaces source.now }
-    requires within { offset ≤ length source.now.bytes.now }
-    ensures { IfOk result (λ a. (status_code a.status ≡ 2) × IsRefusalText source.now.bytes.now kind offset a.text.items) }
-{
-    let text = unsupported_at(alloc, source, kind, offset)?;
-    Ok(Answer {
-        status: Status::Unsupported,
-        text,
-    })
-}
-
-/// What a file of the form is answered: whether its walk meets an alarm.
-fn walked(alloc: Global, source: &Source<'_>, form: &Form) -> Result<Answer, OutOfMemory>
+/// The verdict on a file of the form: whether its walk meets an alarm.
+fn verdict_on_form(alloc: Global, source: &Source<'_>, form: &Form) -> Result<Answer, OutOfMemory>
     requires places { HasPlaces source.now }
     requires entry { form.now.main ≤ length source.now.bytes.now }
     requires calls { AreWithin source.now form.now.calls.items }
-    ensures { IfOk result (λ answer. IsWalked source.now.bytes.now form.now.main form.now.calls.items (status_code answer.status) answer.text.items) }
+    ensures { IfOk result (λ a. IsWalked source.now.bytes.now form.now.main form.now.calls.items a.status a.text.items) }
 {
     match first_alarm(&form.calls) {
         None => {
@@ -109,33 +124,20 @@ fn walked(alloc: Global, source: &Source<'_>, form: &Form) -> Result<Answer, Out
     }
 }
 
-/// What the files of a folder are answered.
-pub fn answer_of<F: Folder>(alloc: Global, folder: &mut F) -> Result<Answer, Stop>
-    ensures kept { F.told folder.new ≡ F.told folder.old }
-    ensures counted { F.faults folder.old ≤ F.faults folder.new }
-    ensures answers { IfOk result (λ a. Answers (F.told folder.old) (status_code a.status) a.text.items) }
-    ensures fault { result ≡ Err Stop.ReadFault → Rose (F.faults folder.old) (F.faults folder.new) }
+/// The answer of a refusal at an offset of the file.
+fn refused_at(
+    alloc: Global,
+    source: &Source<'_>,
+    kind: Unsupported,
+    offset: u32,
+) -> Result<Answer, OutOfMemory>
+    requires places { HasPlaces source.now }
+    requires within { offset ≤ length source.now.bytes.now }
+    ensures { IfOk result (λ a. (a.status ≡ Status.Refused) × IsRefusalText source.now.bytes.now kind offset a.text.items) }
 {
-    match main_file(alloc, folder)? {
-        MainFile::Missing => refused(alloc, Unsupported::U23, "-"),
-        MainFile::TooLarge => refused(alloc, Unsupported::U25, MAIN),
-        MainFile::Read(bytes) => match verdict(alloc, &bytes) {
-            Ok(answer) => Ok(answer),
-            Err(OutOfMemory) => Err(Stop::OutOfMemory),
-        },
-    }
-}
-
-/// The answer of a refusal at no byte of a file. `place` is what stands for its place.
-fn refused(alloc: Global, kind: Unsupported, place: &str) -> Result<Answer, Stop>
-    ensures refused { IfOk result (λ a. (status_code a.status ≡ 2) × (a.text.items ≡ unsupported_text kind place.now)) }
-    ensures memory { result ≢ Err Stop.ReadFault }
-{
-    match unsupported(alloc, kind, place.as_bytes()) {
-        Ok(text) => Ok(Answer {
-            status: Status::Unsupported,
-            text,
-        }),
-        Err(OutOfMemory) => Err(Stop::OutOfMemory),
-    }
+    let text = unsupported_at(alloc, source, kind, offset)?;
+    Ok(Answer {
+        status: Status::Refused,
+        text,
+    })
 }

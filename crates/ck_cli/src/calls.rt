@@ -7,7 +7,7 @@ use ck_base::Op;
 
 /// A kernel call that the file form allows.
 #[derive(Clone, Copy)]
-pub enum KernelCall {
+pub(crate) enum KernelCall {
     Init,
     Disable,
     Suspend,
@@ -37,7 +37,7 @@ pub(crate) fn call_named(text: &[u8]) -> Option<KernelCall>
 }
 
 /// The call's op.
-pub fn op(call: KernelCall) -> Op
+pub(crate) fn op(call: KernelCall) -> Op
     ensures { result ≡ op_of call }
 {
     match call {
@@ -51,7 +51,7 @@ pub fn op(call: KernelCall) -> Op
 }
 
 /// The call's name in C.
-pub fn name(call: KernelCall) -> &'static str
+pub(crate) fn name(call: KernelCall) -> &'static str
     ensures { result.now ≡ name_of call }
 {
     match call {

@@ -3,13 +3,13 @@ use crate::calls::KernelCall;
 
 /// Which calls have a prototype.
 #[derive(Clone, Copy)]
-pub struct Declared {
-    pub init: bool,
-    pub disable: bool,
-    pub suspend: bool,
-    pub enable: bool,
-    pub lock: bool,
-    pub unlock: bool,
+pub(crate) struct Declared {
+    pub(crate) init: bool,
+    pub(crate) disable: bool,
+    pub(crate) suspend: bool,
+    pub(crate) enable: bool,
+    pub(crate) lock: bool,
+    pub(crate) unlock: bool,
 }
 
 impl Declared {

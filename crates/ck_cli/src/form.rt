@@ -1,6 +1,7 @@
 //! The file form, read from the tokens.
 ghost use Rattle.std.specs.Prelude.{◌≡◌, ◌≤◌, length, All, IfOk};
 ghost use Rattle.ck_cli.specs.Reading.{IsReading};
+ghost use Rattle.ck_cli.specs.Verdict.{most_bytes};
 
 use crate::calls::KernelCall;
 use crate::declared::Declared;
@@ -12,21 +13,21 @@ use std::alloc::Global;
 
 /// A call that `main` makes, and the offset at which it begins.
 #[derive(Clone, Copy)]
-pub struct Call {
-    pub call: KernelCall,
-    pub start: u32,
+pub(crate) struct Call {
+    pub(crate) call: KernelCall,
+    pub(crate) start: u32,
 }
 
 /// A file of the form: the offset at which its name `main` begins, and the calls that it makes.
 #[derive(Drop)]
-pub struct Form {
-    pub main: u32,
-    pub calls: Vec<Call>,
+pub(crate) struct Form {
+    pub(crate) main: u32,
+    pub(crate) calls: Vec<Call>,
 }
 
 /// What the tokens of a file are.
 #[derive(Drop)]
-pub enum Reading {
+pub(crate) enum Reading {
     /// A file of the form.
     Form(Form),
     /// None: no file of the form goes on after the token at this offset, or none ends with the file.
@@ -61,7 +62,8 @@ impl Reader {
 
     /// Reads a token that begins at an offset. Whether a file of the form can go on after it.
     fn take(&mut self, lexeme: Lexeme, start: u32) -> Result<bool, OutOfMemory>
-        ensures { IfOk result (λ went_on. (if went_on then Some (progress self.new) else None) ≡ after (progress self.old) lexeme start) }
+        ensures { IfOk result (λ went_on.
+            (if went_on then Some (progress self.new) else None) ≡ after (progress self.old) lexeme start) }
     {
         let Some(next) = self.position.next(lexeme) else {
             return Ok(false);
@@ -97,8 +99,8 @@ impl Reader {
 }
 
 /// What these tokens of a file are.
-pub fn read(alloc: Global, bytes: &[u8], tokens: &[Token]) -> Result<Reading, OutOfMemory>
-    requires short { length bytes.now ≤ 1048576 }
+pub(crate) fn read(alloc: Global, bytes: &[u8], tokens: &[Token]) -> Result<Reading, OutOfMemory>
+    requires short { length bytes.now ≤ most_bytes }
     requires within { All (λ t. (t.span.start ≤ t.span.end) × (t.span.end ≤ length bytes.now)) tokens.now }
     ensures { IfOk result (IsReading bytes.now tokens.now) }
 {

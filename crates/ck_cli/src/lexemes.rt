@@ -6,7 +6,7 @@ use crate::calls::{KernelCall, call_named};
 
 /// A token of the file form, or any other.
 #[derive(Clone, Copy)]
-pub enum Lexeme {
+pub(crate) enum Lexeme {
     Void,
     Int,
     Main,

@@ -5,9 +5,9 @@ ghost use Rattle.ck_cli.specs.Reading.{next_position, role_at};
 use crate::calls::KernelCall;
 use crate::lexemes::Lexeme;
 
-/// What may come next, after a front of a file of the form.
+/// What may come next, after a prefix of a file of the form.
 #[derive(Clone, Copy)]
-pub enum Position {
+pub(crate) enum Position {
     /// A prototype or the opening of `main`.
     Outside,
     PrototypeName,
@@ -29,9 +29,9 @@ pub enum Position {
     End,
 }
 
-/// What a token says where it stands.
+/// What a token says at its position.
 #[derive(Clone, Copy)]
-pub enum Role {
+pub(crate) enum Role {
     /// This call has a prototype.
     Prototype(KernelCall),
     /// `main` begins.

@@ -1,9 +1,10 @@
 //! The bytes of `main.i`, the texts of its tokens, and its places.
 ghost use Rattle.std.specs.Prelude.{◌≡◌, ◌≤◌, length, IfOk};
 ghost use Rattle.ck_lexer.specs.PlaceMaps.{place_of};
-ghost use Rattle.ck_cli.specs.FileForm.{text_of as text_of_token};
+ghost use Rattle.ck_base.specs.TokenText.{text_of as text_of_token};
 ghost use Rattle.ck_cli.specs.Placed.{IsPlaceInMain};
 ghost use Rattle.ck_cli.specs.Sources.{HasPlaces};
+ghost use Rattle.ck_cli.specs.Verdict.{most_bytes};
 
 use crate::project::MAIN;
 use ck_base::{OutOfMemory, Token};
@@ -12,15 +13,15 @@ use std::alloc::Global;
 
 /// The bytes of `main.i`, and their places.
 #[derive(Drop)]
-pub struct Source<'a> {
-    pub bytes: &'a [u8],
+pub(crate) struct Source<'a> {
+    pub(crate) bytes: &'a [u8],
     places: PlaceMap,
 }
 
 impl<'a> Source<'a> {
     /// These bytes, of which there are at most 1,048,576, with their places.
-    pub fn new(alloc: Global, bytes: &'a [u8]) -> Result<Source<'a>, OutOfMemory>
-        requires { length bytes.now ≤ 1048576 }
+    pub(crate) fn new(alloc: Global, bytes: &'a [u8]) -> Result<Source<'a>, OutOfMemory>
+        requires { length bytes.now ≤ most_bytes }
         ensures { IfOk result (λ source. (source.bytes.now ≡ bytes.now) × HasPlaces source) }
     {
         let places = place_map(alloc, MAIN, bytes)?;
@@ -28,7 +29,7 @@ impl<'a> Source<'a> {
     }
 
     /// The place of the byte at an offset, or of the file's end.
-    pub fn place(&self, offset: u32) -> PlaceName<'_>
+    pub(crate) fn place(&self, offset: u32) -> PlaceName<'_>
         requires places { HasPlaces self.now }
         requires within { offset ≤ length self.now.bytes.now }
         ensures { IsPlaceInMain self.now.bytes.now offset (place_of result) }
@@ -38,7 +39,7 @@ impl<'a> Source<'a> {
 }
 
 /// A token's text.
-pub fn text_of<'a>(bytes: &'a [u8], token: &Token) -> &'a [u8]
+pub(crate) fn text_of<'a>(bytes: &'a [u8], token: &Token) -> &'a [u8]
     requires ordered { token.now.span.start ≤ token.now.span.end }
     requires within { token.now.span.end ≤ length bytes.now }
     ensures { result.now ≡ text_of_token bytes.now token.now }

@@ -1,6 +1,6 @@
 //! The exit statuses.
 ghost use Rattle.std.specs.Prelude.{◌≡◌};
-ghost use Rattle.ck_cli.specs.Statuses.{status_code};
+ghost use Rattle.ck_cli.specs.Statuses.{code_of};
 
 /// How a run of the checker ended.
 #[derive(Clone, Copy)]
@@ -10,7 +10,7 @@ pub enum Status {
     /// A walk meets an alarm.
     Rejected,
     /// The project has something that is refused.
-    Unsupported,
+    Refused,
     /// The words are no command.
     Usage,
     /// A call on the folder failed.
@@ -21,17 +21,19 @@ pub enum Status {
     OutOfMemory,
 }
 
-/// The exit status as a number; 4 is kept for faults of the settings.
-pub(crate) fn code(status: Status) -> u8
-    ensures { result ≡ status_code status }
-{
-    match status {
-        Status::Accepted => 0,
-        Status::Rejected => 1,
-        Status::Unsupported => 2,
-        Status::Usage => 3,
-        Status::ReadFault => 5,
-        Status::WriteFault => 6,
-        Status::OutOfMemory => 7,
+impl Status {
+    /// The number that the program exits with (docs/REPORT.md); 4 is kept for faults of the settings.
+    pub fn code(self) -> u8
+        ensures { result ≡ code_of self }
+    {
+        match self {
+            Status::Accepted => 0,
+            Status::Rejected => 1,
+            Status::Refused => 2,
+            Status::Usage => 3,
+            Status::ReadFault => 5,
+            Status::WriteFault => 6,
+            Status::OutOfMemory => 7,
+        }
     }
 }

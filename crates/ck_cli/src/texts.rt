@@ -112,7 +112,8 @@ fn push_alarm(
     call: KernelCall,
     kind: Kind,
 ) -> Result<(), OutOfMemory>
-    ensures { OnOk result (text.new.items ≡ text.old.items ++ alarm_line (record { call = call; place = place_of place.entry }) kind) }
+    ensures { OnOk result (text.new.items
+        ≡ text.old.items ++ alarm_line (record { call = call; place = place_of place.entry }) kind) }
 {
     text.extend_from_slice("alarm 1 ".as_bytes())?;
     push_kind(alloc, text, kind)?;
@@ -130,7 +131,7 @@ fn push_entry(alloc: Global, text: &mut Vec<u8>, main: PlaceName<'_>) -> Result<
 }
 
 /// The text of an accepted project.
-pub fn accepted(alloc: Global) -> Result<Vec<u8>, OutOfMemory>
+pub(crate) fn accepted(alloc: Global) -> Result<Vec<u8>, OutOfMemory>
     ensures { IfOk result (λ text. text.items ≡ accepted_text) }
 {
     let mut text = Vec::new(alloc);
@@ -140,15 +141,19 @@ pub fn accepted(alloc: Global) -> Result<Vec<u8>, OutOfMemory>
     Ok(text)
 }
 
-/// The text of a refusal. `place` is what stands for its place.
-pub fn unsupported(alloc: Global, kind: Unsupported, place: &[u8]) -> Result<Vec<u8>, OutOfMemory>
+/// The text of a refusal. `place` is what is printed for its place.
+pub(crate) fn unsupported(
+    alloc: Global,
+    kind: Unsupported,
+    place: &[u8],
+) -> Result<Vec<u8>, OutOfMemory>
     ensures { IfOk result (λ text. text.items ≡ unsupported_text kind place.now) }
 {
     let mut text = Vec::new(alloc);
     let number = number(&kind);
-    let front = format!(in alloc; "unsupported U{number} ")?;
+    let prefix = format!(in alloc; "unsupported U{number} ")?;
     push_line(&mut text, "rtcheck 1")?;
-    text.extend_from_slice(front.as_bytes())?;
+    text.extend_from_slice(prefix.as_bytes())?;
     text.extend_from_slice(place)?;
     text.push(b' ')?;
     push_line(&mut text, words(&kind))?;
@@ -156,7 +161,7 @@ pub fn unsupported(alloc: Global, kind: Unsupported, place: &[u8]) -> Result<Vec
 }
 
 /// The text of a refusal at an offset of `main.i`.
-pub fn unsupported_at(
+pub(crate) fn unsupported_at(
     alloc: Global,
     source: &Source<'_>,
     kind: Unsupported,
@@ -172,7 +177,7 @@ pub fn unsupported_at(
 }
 
 /// The text of a rejected project: its alarm, and the walk to it. The name `main` begins at an offset.
-pub fn rejected(
+pub(crate) fn rejected(
     alloc: Global,
     source: &Source<'_>,
     main: u32,
@@ -182,7 +187,8 @@ pub fn rejected(
     requires entry { main ≤ length source.now.bytes.now }
     requires acts { AreWithin source.now alarm.now.before.now }
     requires last { alarm.now.call.start ≤ length source.now.bytes.now }
-    ensures { IfOk result (λ text. IsAlarmText source.now.bytes.now main alarm.now.before.now alarm.now.call alarm.now.kind text.items) }
+    ensures { IfOk result (λ text.
+        IsAlarmText source.now.bytes.now main alarm.now.before.now alarm.now.call alarm.now.kind text.items) }
 {
     let mut text = Vec::new(alloc);
     push_line(&mut text, "rtcheck 1")?;

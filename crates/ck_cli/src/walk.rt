@@ -11,14 +11,14 @@ use ck_states::act;
 
 /// The first call that alarms, with the calls before it and the alarm's kind.
 #[derive(Clone, Copy)]
-pub struct FirstAlarm<'a> {
-    pub before: &'a [Call],
-    pub call: Call,
-    pub kind: Kind,
+pub(crate) struct FirstAlarm<'a> {
+    pub(crate) before: &'a [Call],
+    pub(crate) call: Call,
+    pub(crate) kind: Kind,
 }
 
 /// The first alarm of the walk over these calls, if there is one.
-pub fn first_alarm(calls: &[Call]) -> Option<FirstAlarm<'_>>
+pub(crate) fn first_alarm(calls: &[Call]) -> Option<FirstAlarm<'_>>
     ensures { option_map (λ a. (a.before.now, a.call, a.kind)) result ≡ walk State.TI [] calls.now }
 {
     let mut state = State::TI;

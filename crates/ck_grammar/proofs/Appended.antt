@@ -1,4 +1,6 @@
--- A tree before some tokens and more is written as it is before the first of them, and then the others.
+-- A tree before some tokens and more is written as it is before the first of them, and then the others. Crates above
+-- may
+-- cite these equations.
 use Rattle.std.proofs.Common.{◌≡◌, List, [], ◌∷◌, ◌++◌, Option, Some, None, refl, ap}
 use Rattle.ck_base.specs.declared.tokens.Token.{Token}
 use Rattle.ck_grammar.specs.Trees.{Expr, Operands, Suffixes, Specifiers, Members, Declarators, Declarator, Dims, Params}

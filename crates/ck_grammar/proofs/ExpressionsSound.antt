@@ -1,4 +1,4 @@
--- What the readers of expressions read is spelled so, where it is for the readers of what stands inside.
+-- What the readers of expressions read is spelled so, where it is for the readers of what is inside.
 use Rattle.std.proofs.Common.{◌≡◌, ℕ, zero, suc, ◌≤◌, true, false, List, [], ◌∷◌, ◌++◌, length, Some, None, nat_eq}
 use Rattle.std.proofs.Common.{nat_le, refl, ap, ◌∙◌, arith}
 use Rattle.std.specs.Prelude.{codes}
@@ -6,8 +6,8 @@ use Rattle.std.proofs.lemmas.Bool.Decides.{nat_tests}
 use Rattle.ck_base.specs.declared.tokens.Token.{Token}
 use Rattle.ck_grammar.proofs.Heads.{primary_is_unary}
 use Rattle.ck_grammar.proofs.Levels.{unary_is_tight}
-use Rattle.ck_grammar.proofs.OnRead.{OnRead, OnPair, IsSpelled, SoundReader, SoundLoop, on_then, by_if, on_else}
-use Rattle.ck_grammar.proofs.OnRead.{on_mark, on_identifier, on_guard}
+use Rattle.ck_grammar.proofs.ReaderAnswers.{OnRead, OnPair, IsSpelled, SoundReader, SoundLoop, on_then, by_if, on_else}
+use Rattle.ck_grammar.proofs.ReaderAnswers.{on_mark, on_identifier, on_guard}
 use Rattle.ck_grammar.proofs.WordsTold.{LeadTells, lead_tells, FollowTells, follow_tells, string_tells, equal}
 use Rattle.ck_grammar.proofs.WordsTold.{operator_tells, question_tells}
 use Rattle.ck_grammar.specs.Fitting.{Fits, FitsOperands, FitsSuffixes, FitsEach, FitsDeclarator, NoName, AreStrings}

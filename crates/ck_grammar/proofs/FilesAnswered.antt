@@ -2,7 +2,7 @@
 use Rattle.std.proofs.Common.{◌≡◌, ℕ, ◌-◌, List, [], length, Option, Some, None, refl, sym, ◌∙◌}
 use Rattle.std.proofs.lemmas.Option.{none-some}
 use Rattle.ck_base.specs.declared.tokens.Token.{Token}
-use Rattle.ck_grammar.proofs.FilesRead.{spelled_file_is_read}
+use Rattle.ck_grammar.proofs.FilesComplete.{spelled_file_is_read}
 use Rattle.ck_grammar.proofs.StatementsSound.{IsFile, file_is_spelled}
 use Rattle.ck_grammar.specs.Answers.{AnswersFile, ReadsFiles}
 use Rattle.ck_grammar.specs.ReadingStatements.{file_at}

@@ -31,11 +31,11 @@ found_if : (text : List ℕ) (found : FixedWord) (b : Bool) → bytes_eq (spelli
 found_if text found true h e = sym ((bytes_eq-Decides (spelling found) text).0 h)
 found_if text found false h e = missed text e
 
-found_by : (text : List ℕ) (at_most : Option FixedWord) → candidate text ≡ at_most → Found text (if_spelled text at_most)
+found_by : (text : List ℕ) (at_most : Option FixedWord) → candidate text ≡ at_most
+    → Found text (if_spelled text at_most)
 found_by text None e = missed text (ap (if_spelled text) e)
 found_by text (Some found) e =
     found_if text found (bytes_eq (spelling found) text) refl (ap (if_spelled text) e)
-
 
 same_fixed : (text other : List ℕ) → Fixed text ≡ Fixed other → text ≡ other
 same_fixed text other e = cc

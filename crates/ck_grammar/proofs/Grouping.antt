@@ -1,9 +1,9 @@
 -- How worked texts are stated: a text is written with one blank between two tokens, and what the reader reads of it is
 -- shown with each expression of operators in braces and each statement between `begin` and `end`. So
 -- `a + { b * c }` in a shown expression tells which operands `+` and `*` have.
-use Rattle.std.specs.Prelude.{◌≡◌, ℕ, ◌+◌, suc, Bool, true, false, ◌||◌, List, [], ◌∷◌, length, Option, Some, None,
-    codes}
-use Rattle.std.specs.Prelude.{if◌then◌else◌}
+use Rattle.std.specs.Prelude.{◌≡◌, ℕ, ◌+◌, suc, Bool, true, false, ◌||◌, List, [], ◌∷◌, length, Option, Some, None}
+use Rattle.std.specs.Prelude.{codes}
+use Rattle.std.specs.Prelude.{if◌then◌else◌, is_some}
 use Rattle.ck_base.specs.Characters.{◌∈◌, ◌∈range◌}
 use Rattle.ck_base.specs.TokenText.{text_of}
 use Rattle.ck_base.specs.declared.tokens.Token.{Token}
@@ -15,8 +15,8 @@ use Rattle.ck_grammar.specs.Reading.{expr_at}
 use Rattle.ck_grammar.specs.ReadingStatements.{statement_at, file_at}
 use Rattle.ck_grammar.specs.Spelling.{most}
 use Rattle.ck_grammar.specs.Statements.{Statement, BlockItems, ForStart, Declaration, External, StartEmpty, StartExpr}
-use Rattle.ck_grammar.specs.Statements.{StartDeclaration, Block, Empty, ExpressionStatement, If, IfElse, Switch, While,
-    Do}
+use Rattle.ck_grammar.specs.Statements.{StartDeclaration, Block, Empty, ExpressionStatement, If, IfElse, Switch, While}
+use Rattle.ck_grammar.specs.Statements.{Do}
 use Rattle.ck_grammar.specs.Statements.{For, Case, Default, Label, Goto, Jump, Return, ReturnValue, NoBlockItems}
 use Rattle.ck_grammar.specs.Statements.{DeclarationItem, StatementItem, FileDeclaration, FunctionDefinition}
 use Rattle.ck_grammar.specs.StatementsWritten as written
@@ -117,19 +117,19 @@ module _ (text : Token → List ℕ) where
         text keyword ∷ text opening ∷ grouped e (text closing ∷ codes "begin" ∷ stated s (codes "end" ∷ more))
     stated (IfElse keyword opening e closing s else_ t) more =
         text keyword ∷ text opening ∷ grouped e
-            (text closing ∷ codes "begin" ∷ stated s
-            (codes "end" ∷ text else_ ∷ codes "begin" ∷ stated t (codes "end" ∷ more)))
+        (text closing ∷ codes "begin" ∷ stated s
+        (codes "end" ∷ text else_ ∷ codes "begin" ∷ stated t (codes "end" ∷ more)))
     stated (Switch keyword opening e closing s) more =
         text keyword ∷ text opening ∷ grouped e (text closing ∷ codes "begin" ∷ stated s (codes "end" ∷ more))
     stated (While keyword opening e closing s) more =
         text keyword ∷ text opening ∷ grouped e (text closing ∷ codes "begin" ∷ stated s (codes "end" ∷ more))
     stated (Do keyword s while_ opening e closing semicolon) more =
         text keyword ∷ codes "begin" ∷ stated s
-            (codes "end" ∷ text while_ ∷ text opening ∷ grouped e (text closing ∷ text semicolon ∷ more))
+        (codes "end" ∷ text while_ ∷ text opening ∷ grouped e (text closing ∷ text semicolon ∷ more))
     stated (For keyword opening start e semicolon f closing s) more =
         text keyword ∷ text opening
         ∷ started start
-            (maybe e (text semicolon ∷ maybe f (text closing ∷ codes "begin" ∷ stated s (codes "end" ∷ more))))
+        (maybe e (text semicolon ∷ maybe f (text closing ∷ codes "begin" ∷ stated s (codes "end" ∷ more))))
     stated (Case keyword e colon s) more =
         text keyword ∷ grouped e (text colon ∷ codes "begin" ∷ stated s (codes "end" ∷ more))
     stated (Default keyword colon s) more = text keyword ∷ text colon ∷ codes "begin" ∷ stated s (codes "end" ∷ more)
@@ -150,7 +150,7 @@ module _ (text : Token → List ℕ) where
   filed (FileDeclaration d ∷ xs) = codes "begin" ∷ before (written.declaration d []) (codes "end" ∷ filed xs)
   filed (FunctionDefinition s d opening items closing ∷ xs) =
       codes "begin" ∷ before (specifiers s (declarator d (opening ∷ [])))
-          (listed items (text closing ∷ codes "end" ∷ filed xs))
+      (listed items (text closing ∷ codes "end" ∷ filed xs))
 
 -- what is read of these tokens is shown so, and no token is left
 abbrev shown_whole : {A : Type 0} → (A → List (List ℕ)) → Read A → Option (List (List ℕ))
@@ -162,7 +162,7 @@ shown_whole show (Some (x, t ∷ ts)) = None
 abbrev pub Groups : List (List ℕ) → String → String → Type 0
 Groups typedefs line shown =
     shown_whole (λ e. grouped (text_of (codes line)) e [])
-        (expr_at (word_of (codes line) typedefs) most level.comma (tokens_of line))
+    (expr_at (word_of (codes line) typedefs) most level.comma (tokens_of line))
     ≡ Some (words shown)
 
 -- the text is read as a statement that is shown so
@@ -175,3 +175,10 @@ States typedefs line shown =
 abbrev pub Files : String → String → Type 0
 Files line shown =
     (file_at (codes line) (tokens_of line) >>= λ xs. Some (filed (text_of (codes line)) xs)) ≡ Some (words shown)
+
+-- the text is read as a file, or as none
+abbrev pub Accepts : String → Type 0
+Accepts line = is_some (file_at (codes line) (tokens_of line)) ≡ true
+
+abbrev pub Refuses : String → Type 0
+Refuses line = file_at (codes line) (tokens_of line) ≡ None

@@ -4,10 +4,10 @@ use Rattle.std.proofs.Common.{Some, refl, sym, ap, ◌∙◌, arith}
 use Rattle.std.specs.Prelude.{codes}
 use Rattle.std.proofs.lemmas.Bool.{false≢true}
 use Rattle.ck_base.specs.declared.tokens.Token.{Token}
-use Rattle.ck_grammar.proofs.AllSound.{all_sound}
+use Rattle.ck_grammar.proofs.ReadersSound.{all_sound}
 use Rattle.ck_grammar.proofs.ExpressionsSound.{GoodExpr, IsExpr}
-use Rattle.ck_grammar.proofs.OnRead.{OnRead, OnPair, IsSpelled, SoundReader, SoundLoop, on_then, by_if, on_else}
-use Rattle.ck_grammar.proofs.OnRead.{on_mark, is_fixed, on_identifier}
+use Rattle.ck_grammar.proofs.ReaderAnswers.{OnRead, OnPair, IsSpelled, SoundReader, SoundLoop, on_then, by_if, on_else}
+use Rattle.ck_grammar.proofs.ReaderAnswers.{on_mark, is_fixed, on_identifier}
 use Rattle.ck_grammar.proofs.TypesSound.{IsSpecifiers, IsDeclarator, not_true}
 use Rattle.ck_grammar.proofs.TypeStops.{and_left}
 use Rattle.ck_grammar.specs.Fitting.{NewName}

@@ -1,4 +1,4 @@
--- What an expression and a declaration begin with is no label: no name with a colon behind it (C99 6.8.1).
+-- What an expression and a declaration begin with is no label: no name with a colon after it (C99 6.8.1).
 use Rattle.std.proofs.Common.{◌≡◌, ℕ, Bool, true, false, List, ◌∷◌, refl}
 use Rattle.std.specs.Prelude.{codes}
 use Rattle.std.proofs.lemmas.Bool.{false≢true}
@@ -42,7 +42,7 @@ takes_no_name Ordinary e f h = absurd (false≢true h)
 takes_no_name Typedef e f h = absurd (false≢true h)
 takes_no_name _ e f h = refl
 
--- an expression is no label where no colon stands behind it
+-- an expression is no label where no colon is after it
 pub expression_no_label : (w : Token → Word) (e : Expr) (more : List Token) → Fits w e
     → is_at w ":" more ≡ false → is_label w (written e more) ≡ false
 expression_no_label w (Name t) more h none = rw h none
@@ -83,7 +83,7 @@ specifiers_no_colon w seen (Tagged k t rest) more h none = tag_no_colon (w k) h.
 specifiers_no_colon w seen (Struct k tag o m c rest) more h none = tag_no_colon (w k) (rw h.0 refl)
 specifiers_no_colon w seen (Enum k tag o m c rest) more h none = tag_no_colon (w k) (rw h.0 refl)
 
--- specifiers are no label where no colon stands behind them
+-- specifiers are no label where no colon is after them
 pub specifiers_no_label : (w : Token → Word) (place : Place) (s : Specifiers) (more : List Token) → FitsEach w false s
     → go_together w place s ≡ true → is_at w ":" more ≡ false → is_label w (specifiers s more) ≡ false
 specifiers_no_label w place NoSpecifiers more h good none = absurd (false≢true good)

@@ -1,39 +1,53 @@
-pub mod AllRead
-pub mod AllSound
-mod Appended
-mod BodiesRead
-mod CastsRead
-mod DeclarationsRead
-mod DeclaratorsRead
-mod ExpressionsSound
-pub mod FilesAnswered
-pub mod FilesRead
-mod Heads
-mod InitialisersSound
-mod InitsRead
-mod Labels
-mod Lengths
-mod Levels
-mod LevelsRead
-mod Longest
-pub mod LongestRead
-mod OnRead
+-- The theorems
+-- one_expression
+pub mod ExpressionsComplete
+-- one_declaration, one_statement, one_external, one_file
+pub mod FilesComplete
+-- reads_expressions
+pub mod LongestAnswered
+-- one_longest
 pub mod OneLongest
-mod OperandsRead
-mod SpecifiersRead
-mod StatementsHeads
-mod StatementsLengths
-mod StatementsRead
-pub mod StatementsSound
-mod Stops
-mod SuffixesRead
-mod Texts
-mod TypeStops
-mod TypesSound
-mod WordsTold
-pub mod Worked
-mod WorkedDepth
-mod WorkedStatements
+-- reads_files
+pub mod FilesAnswered
+-- fixed_word
 pub mod FixedWordsFound
+-- Completeness: what is spelled is read
+mod OperandsComplete
+mod SuffixesComplete
+mod CastsComplete
+mod LevelsComplete
+mod SpecifiersComplete
+mod BodiesComplete
+mod DeclaratorsComplete
+mod InitialisersComplete
+mod DeclarationsComplete
+mod StatementsComplete
+-- where an expression is written, one at least as long is read
+mod LongestReached
+-- Soundness: what is read is spelled so
+mod ReaderAnswers
+mod ExpressionsSound
+mod TypesSound
+pub mod ReadersSound
+mod InitialisersSound
+pub mod StatementsSound
+-- Words: what one tells, what a part begins with and ends at
+mod WordsTold
+mod Texts
+mod Heads
+mod StatementsHeads
+mod Labels
+mod Stops
+mod TypeStops
+-- Levels and lengths
+mod Levels
+mod Lengths
+mod StatementsLengths
+pub mod Appended
+-- Worked texts
 pub mod Grouping
 mod WorkedOperators
+mod WorkedStatements
+mod WorkedTypes
+pub mod Worked
+mod WorkedDepth

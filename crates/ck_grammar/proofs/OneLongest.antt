@@ -1,7 +1,7 @@
 -- No tokens have two longest expressions at the front.
 use Rattle.std.proofs.Common.{◌≡◌, List, [], ◌∷◌, ◌++◌, length, refl, sym, ap, ◌∙◌, arith}
 use Rattle.ck_base.specs.declared.tokens.Token.{Token}
-use Rattle.ck_grammar.proofs.AllRead.{one_tree}
+use Rattle.ck_grammar.proofs.ExpressionsComplete.{one_tree}
 use Rattle.ck_grammar.proofs.Appended.{written_appended}
 use Rattle.ck_grammar.proofs.Lengths.{longer_append}
 use Rattle.ck_grammar.specs.Answers.{OneLongest}
@@ -20,7 +20,7 @@ others_of (t ∷ ts) = ts
 longer_rest : (ts rest more : List Token) (t : Token) → rest ≡ (t ∷ (ts ++ more)) → length rest ≡ length more → ⊥
 longer_rest ts rest more t same lengths = omega (arith, ap length same, lengths, longer_append ts more)
 
--- what stands before rests of one length is one
+-- what is before rests of one length is one
 same_front : (ts us rest more : List Token) → (ts ++ rest) ≡ (us ++ more) → length rest ≡ length more → (ts ≡ us)
     × (rest ≡ more)
 same_front [] [] rest more same lengths = (refl, same)

@@ -4,7 +4,7 @@ use Rattle.std.specs.Prelude.{codes}
 use Rattle.std.proofs.lemmas.Bool.{false≢true}
 use Rattle.ck_base.specs.declared.tokens.Token.{Token}
 use Rattle.ck_grammar.proofs.Heads.{begins, no_specifiers_begin}
-use Rattle.ck_grammar.proofs.DeclarationsRead.{declaration_begins, and_false}
+use Rattle.ck_grammar.proofs.DeclarationsComplete.{declaration_begins, and_false}
 use Rattle.ck_grammar.proofs.Texts.{other_word, operand_comes_not, specifiers_come_not}
 use Rattle.ck_grammar.specs.Phrases.{NamePhrase, JumpPhrase, phrase}
 use Rattle.ck_grammar.specs.Readers.{Reader, is_at}
@@ -105,7 +105,7 @@ pub evaluates_read : (w : Token → Word) (p : ℕ → Reader Expr) (d : Reader 
 evaluates_read w p d s [] h none = absurd (false≢true h)
 evaluates_read w p d s (t ∷ ts) h none = evaluates_by w p d s (w t) t ts h none
 
--- no statement stands at a block's closing mark
+-- no statement is at a block's closing mark
 pub no_statement_at_curly : (bytes : List ℕ) (typedefs : List (List ℕ)) (n : ℕ) (c : Token) (more : List Token)
     → word_of bytes typedefs c ≡ Fixed (codes "}") → statement_at bytes typedefs n (c ∷ more) ≡ None
 no_statement_at_curly bytes typedefs zero c more h = refl

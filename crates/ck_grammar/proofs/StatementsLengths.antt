@@ -1,4 +1,4 @@
--- Declarations and statements with more behind them are longer than that.
+-- Declarations and statements with more after them are longer than that.
 use Rattle.std.proofs.Common.{◌≡◌, suc, ◌≤◌, false, List, [], ◌∷◌, length, Option, Some, None, refl, arith}
 use Rattle.ck_base.specs.declared.tokens.Token.{Token}
 use Rattle.ck_grammar.proofs.Lengths.{longer, longer_specifiers, longer_declarator, longer_optional}

@@ -4,12 +4,12 @@ use Rattle.std.proofs.Common.{Some, None, refl, sym, ap, ◌∙◌, arith}
 use Rattle.std.specs.Prelude.{codes}
 use Rattle.std.proofs.lemmas.Bool.{false≢true}
 use Rattle.ck_base.specs.declared.tokens.Token.{Token}
-use Rattle.ck_grammar.proofs.AllSound.{all_sound}
+use Rattle.ck_grammar.proofs.ReadersSound.{all_sound}
 use Rattle.ck_grammar.proofs.ExpressionsSound.{SoundExprs, GoodExpr, IsExpr}
 use Rattle.ck_grammar.proofs.InitialisersSound.{GoodDeclaration, IsDeclaration, declares_sound, bare_sound}
 use Rattle.ck_grammar.proofs.InitialisersSound.{declaration_sound}
-use Rattle.ck_grammar.proofs.OnRead.{OnRead, IsSpelled, SoundReader, SoundLoop, on_then, by_if, on_else, on_mark}
-use Rattle.ck_grammar.proofs.OnRead.{on_identifier, on_guard}
+use Rattle.ck_grammar.proofs.ReaderAnswers.{OnRead, IsSpelled, SoundReader, SoundLoop, on_then, by_if, on_else, on_mark}
+use Rattle.ck_grammar.proofs.ReaderAnswers.{on_identifier, on_guard}
 use Rattle.ck_grammar.proofs.TypesSound.{IsSpecifiers, IsDeclarator, not_true}
 use Rattle.ck_grammar.proofs.TypeStops.{and_left, and_right}
 use Rattle.ck_grammar.proofs.WordsTold.{PhraseTells, phrase_tells}
@@ -67,7 +67,7 @@ IsItems bytes typedefs n ts = IsSpelled (GoodItems bytes typedefs n) items ts
 abbrev pub IsExternal : List ℕ → List (List ℕ) → ℕ → List Token → External → List Token → Type 0
 IsExternal bytes typedefs n ts = IsSpelled (GoodExternal bytes typedefs n) external ts
 
--- and no `else` stands behind a statement that would take it
+-- and no `else` is after a statement that would take it
 abbrev pub IsStatement : List ℕ → List (List ℕ) → ℕ → List Token → Statement → List Token → Type 0
 IsStatement bytes typedefs n ts s r = IsSpelled (GoodStatement bytes typedefs n) statement ts s r
     × (ends_open s ≡ true → is_at (word_of bytes typedefs) "else" r ≡ false)
@@ -178,7 +178,7 @@ evaluates_sound bytes typedefs p n ts sound =
       closed,
     )))
 
--- behind the test of an `if` and its statement
+-- after the test of an `if` and its statement
 else_sound : (bytes : List ℕ) (typedefs : List (List ℕ)) (s : Reader Statement) (n : ℕ) (k o c : Token) (e : Expr)
     (x : Statement) (ts r r' : List Token)
     → word_of bytes typedefs k ≡ Fixed (codes "if") → word_of bytes typedefs o ≡ Fixed (codes "(")

@@ -45,7 +45,7 @@ no_operator (Operator m) k one lt = differ m k (λ e. omega (arith, one, lt, e))
 no_operator Nothing k one lt = differ 0 k (λ e. omega (arith, one, lt, e))
 no_operator _ k one lt = differ 0 k (λ e. omega (arith, one, lt))
 
--- the marks behind an expression that nothing binds to
+-- the marks after an expression that nothing binds to
 pub at_round : (w : Token → Word) (c : Token) (ts : List Token) (j : ℕ) → j ≤ 13 → w c ≡ Fixed (codes ")")
     → StopsAt w j (c ∷ ts)
 at_round w c ts j le h = rw h (omega (arith, le))

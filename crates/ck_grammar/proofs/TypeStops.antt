@@ -19,7 +19,7 @@ use Rattle.ck_grammar.specs.Words.{Star, RoundMark, SquareMark, CurlyMark, Close
 use Rattle.ck_grammar.specs.Written.{specifiers, declarator, dims, params}
 use Rattle.ck_grammar.specs.Trees as trees
 
--- what may come behind a declarator: no part of one
+-- what may come after a declarator: no part of one
 abbrev pub ends : Sort → Bool
 ends Other = true
 ends CurlyMark = true
@@ -30,7 +30,7 @@ abbrev pub StopsDeclarator : (Token → Word) → List Token → Type 0
 StopsDeclarator w [] = Unit {0}
 StopsDeclarator w (t ∷ ts) = ends (sort (w t)) ≡ true
 
--- what may come behind specifiers that have a type: no specifier and no body
+-- what may come after specifiers that have a type: no specifier and no body
 abbrev pub ends_specifiers : Sort → Bool
 ends_specifiers Plain = true
 ends_specifiers TypeName = true
@@ -45,7 +45,7 @@ abbrev pub StopsSpecifiers : (Token → Word) → List Token → Type 0
 StopsSpecifiers w [] = Unit {0}
 StopsSpecifiers w (t ∷ ts) = ends_specifiers (sort (w t)) ≡ true
 
--- a declarator ends at the marks behind it; a body's opening mark apart, specifiers do too
+-- a declarator ends at the marks after it; a body's opening mark apart, specifiers do too
 abbrev pub ends_both : Sort → Bool
 ends_both Other = true
 ends_both CloseMark = true

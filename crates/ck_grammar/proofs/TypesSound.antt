@@ -1,12 +1,12 @@
--- What the readers of specifiers and declarators read is spelled so, where it is for the readers of what stands inside.
+-- What the readers of specifiers and declarators read is spelled so, where it is for the readers of what is inside.
 use Rattle.std.proofs.Common.{◌≡◌, ℕ, zero, suc, ◌≤◌, Bool, true, false, ◌&&◌, ◌||◌, not, cond, List, [], ◌∷◌, ◌++◌}
 use Rattle.std.proofs.Common.{length, Option, Some, None, refl, sym, ap, ◌∙◌, arith}
 use Rattle.std.specs.Prelude.{codes}
 use Rattle.std.proofs.lemmas.Bool.{false≢true}
 use Rattle.ck_base.specs.declared.tokens.Token.{Token}
 use Rattle.ck_grammar.proofs.ExpressionsSound.{GoodExpr, IsExpr}
-use Rattle.ck_grammar.proofs.OnRead.{OnRead, OnPair, IsSpelled, SoundReader, SoundLoop, on_then, by_if, on_else}
-use Rattle.ck_grammar.proofs.OnRead.{on_mark, is_fixed, on_guard}
+use Rattle.ck_grammar.proofs.ReaderAnswers.{OnRead, OnPair, IsSpelled, SoundReader, SoundLoop, on_then, by_if, on_else}
+use Rattle.ck_grammar.proofs.ReaderAnswers.{on_mark, is_fixed, on_guard}
 use Rattle.ck_grammar.proofs.TypeStops.{and_left, and_right}
 use Rattle.ck_grammar.proofs.WordsTold.{SortTells, sort_tells}
 use Rattle.ck_grammar.specs.Fitting.{FitsEach, FitsMembers, FitsDeclarators, FitsDeclarator, FitsDims, FitsParams}
@@ -102,7 +102,7 @@ IsDims w n ts = IsSpelled (GoodDims w n) dims ts
 no_specifiers : (w : Token → Word) (n : ℕ) (seen : Bool) (ts : List Token) → IsEach w n seen ts NoSpecifiers ts
 no_specifiers w n seen ts = record { tokens_are = refl; good = (tt, omega arith) }
 
--- a body, and the specifiers behind it
+-- a body, and the specifiers after it
 body_sound : {M : Type 0} (Good : M → Type 0) (spells : M → List Token → List Token)
     (Q : Specifiers → List Token → Type 0) (w : Token → Word) (n : ℕ) (inner : Reader M)
     (make : Token → M → Token → Specifiers → Specifiers) (go : List Token → Specifiers × List Token) (ts : List Token)

@@ -1,4 +1,4 @@
--- What it tells of a word how it begins an operand or a statement, follows an expression or stands in a declaration.
+-- What it tells of a word how it begins an operand or a statement, follows an expression or is in a declaration.
 use Rattle.std.proofs.Common.{◌≡◌, ℕ, ◌≤◌, Bool, true, false, ◌||◌, cond, List, [], ◌∷◌, nat_eq, refl, ap, arith, ◌⊎◌}
 use Rattle.std.proofs.Common.{inl, inr}
 use Rattle.std.specs.Prelude.{codes}

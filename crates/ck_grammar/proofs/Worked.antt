@@ -15,87 +15,11 @@ use Rattle.ck_grammar.specs.Trees.{NoDeclarators, Abstract, Named, Nested, NoDim
 use Rattle.ck_grammar.specs.Trees.{NoMore, Ellipsis, LastValued, One}
 use Rattle.ck_grammar.specs.Words.{Word as Words, Fixed, Number, word_of}
 use Rattle.ck_grammar.specs.Written.{written}
-use Rattle.ck_grammar.proofs.AllRead.{one_tree}
+use Rattle.ck_grammar.proofs.ExpressionsComplete.{one_tree}
 
 -- a token of a kind, from a byte up to a byte
 abbrev pub at : TokenKind → ℕ → ℕ → Token
 at kind start end = record { kind = kind; span = record { file = 0; start = start; end = end } }
-
--- `a = b = c`: an assignment takes what is right of it
-assignments : Spells
-    (Assignment (Name (at kinds.Word 0 1)) (at kinds.Mark 2 3)
-    (Assignment (Name (at kinds.Word 4 5)) (at kinds.Mark 6 7) (Name (at kinds.Word 8 9)))) (codes "a = b = c")
-    (at kinds.Word 0 1 ∷ at kinds.Mark 2 3 ∷ at kinds.Word 4 5 ∷ at kinds.Mark 6 7 ∷ at kinds.Word 8 9 ∷ []) ([])
-assignments = record { tokens_are = refl; fits = search arith; nests = omega arith }
-
--- `(t)*p`: a typedef name in parentheses begins a cast
-cast : Spells
-    (Cast (at kinds.Mark 0 1) (TypedefName (at kinds.Word 1 2) NoSpecifiers) (Abstract [] NoDims) (at kinds.Mark 2 3)
-    (Unary (at kinds.Mark 3 4) (Name (at kinds.Word 4 5)))) (codes "(t)*p")
-    (at kinds.Mark 0 1 ∷ at kinds.Word 1 2 ∷ at kinds.Mark 2 3 ∷ at kinds.Mark 3 4 ∷ at kinds.Word 4 5 ∷ [])
-    (codes "t" ∷ [])
-cast = record { tokens_are = refl; fits = search arith; nests = omega arith }
-
--- `(t)*p`: another name in parentheses is an operand
-product : Spells
-    (Chain (Paren (at kinds.Mark 0 1) (Name (at kinds.Word 1 2)) (at kinds.Mark 2 3))
-    (Operand (at kinds.Mark 3 4) (Name (at kinds.Word 4 5)) NoOperands)) (codes "(t)*p")
-    (at kinds.Mark 0 1 ∷ at kinds.Word 1 2 ∷ at kinds.Mark 2 3 ∷ at kinds.Mark 3 4 ∷ at kinds.Word 4 5 ∷ []) ([])
-product = record { tokens_are = refl; fits = search arith; nests = omega arith }
-
--- `a + b * c - d`: products bind tighter than sums, and a sum of three is one chain
-precedence : Spells
-    (Chain (Name (at kinds.Word 0 1))
-    (Operand (at kinds.Mark 2 3)
-    (Chain (Name (at kinds.Word 4 5)) (Operand (at kinds.Mark 6 7) (Name (at kinds.Word 8 9)) NoOperands))
-    (Operand (at kinds.Mark 10 11) (Name (at kinds.Word 12 13)) NoOperands))) (codes "a + b * c - d")
-    (at kinds.Word 0 1 ∷ at kinds.Mark 2 3 ∷ at kinds.Word 4 5 ∷ at kinds.Mark 6 7 ∷ at kinds.Word 8 9
-    ∷ at kinds.Mark 10 11 ∷ at kinds.Word 12 13 ∷ []) ([])
-precedence = record { tokens_are = refl; fits = search arith; nests = omega arith }
-
--- `f(x, y)[1].m++`: suffixes are one list
-suffixes : Spells
-    (Postfix (Name (at kinds.Word 0 1))
-    (Call (at kinds.Mark 1 2) (Name (at kinds.Word 2 3))
-    (Operand (at kinds.Mark 3 4) (Name (at kinds.Word 5 6)) NoOperands) (at kinds.Mark 6 7)
-    (Index (at kinds.Mark 7 8) (Constant (at kinds.Number 8 9)) (at kinds.Mark 9 10)
-    (MemberAccess (at kinds.Mark 10 11) (at kinds.Word 11 12) (PostIncrement (at kinds.Mark 12 14) NoSuffixes)))))
-    (codes "f(x, y)[1].m++")
-    (at kinds.Word 0 1 ∷ at kinds.Mark 1 2 ∷ at kinds.Word 2 3 ∷ at kinds.Mark 3 4 ∷ at kinds.Word 5 6
-    ∷ at kinds.Mark 6 7 ∷ at kinds.Mark 7 8 ∷ at kinds.Number 8 9 ∷ at kinds.Mark 9 10 ∷ at kinds.Mark 10 11
-    ∷ at kinds.Word 11 12 ∷ at kinds.Mark 12 14 ∷ []) ([])
-suffixes = record { tokens_are = refl; fits = search arith; nests = omega arith }
-
--- `sizeof (t) * p`: a typedef name behind `sizeof (` is a type
-size_of_type : Spells
-    (Chain (SizeofType (at kinds.Key 0 6) (at kinds.Mark 7 8) (TypedefName (at kinds.Word 8 9) NoSpecifiers)
-    (Abstract [] NoDims) (at kinds.Mark 9 10)) (Operand (at kinds.Mark 11 12) (Name (at kinds.Word 13 14)) NoOperands))
-    (codes "sizeof (t) * p")
-    (at kinds.Key 0 6 ∷ at kinds.Mark 7 8 ∷ at kinds.Word 8 9 ∷ at kinds.Mark 9 10 ∷ at kinds.Mark 11 12
-    ∷ at kinds.Word 13 14 ∷ []) (codes "t" ∷ [])
-size_of_type = record { tokens_are = refl; fits = search arith; nests = omega arith }
-
--- `sizeof (t)[0]`: another name behind `sizeof (` is an operand, which takes suffixes
-size_of_operand : Spells
-    (Unary (at kinds.Key 0 6)
-    (Postfix (Paren (at kinds.Mark 7 8) (Name (at kinds.Word 8 9)) (at kinds.Mark 9 10))
-    (Index (at kinds.Mark 10 11) (Constant (at kinds.Number 11 12)) (at kinds.Mark 12 13) NoSuffixes)))
-    (codes "sizeof (t)[0]")
-    (at kinds.Key 0 6 ∷ at kinds.Mark 7 8 ∷ at kinds.Word 8 9 ∷ at kinds.Mark 9 10 ∷ at kinds.Mark 10 11
-    ∷ at kinds.Number 11 12 ∷ at kinds.Mark 12 13 ∷ []) ([])
-size_of_operand = record { tokens_are = refl; fits = search arith; nests = omega arith }
-
--- `a ? b = c, d : e ? f : g`: a choice takes a whole expression in the middle and a choice on the right
-choice : Spells
-    (Conditional (Name (at kinds.Word 0 1)) (at kinds.Mark 2 3)
-    (Chain (Assignment (Name (at kinds.Word 4 5)) (at kinds.Mark 6 7) (Name (at kinds.Word 8 9)))
-    (Operand (at kinds.Mark 9 10) (Name (at kinds.Word 11 12)) NoOperands)) (at kinds.Mark 13 14)
-    (Conditional (Name (at kinds.Word 15 16)) (at kinds.Mark 17 18) (Name (at kinds.Word 19 20)) (at kinds.Mark 21 22)
-    (Name (at kinds.Word 23 24)))) (codes "a ? b = c, d : e ? f : g")
-    (at kinds.Word 0 1 ∷ at kinds.Mark 2 3 ∷ at kinds.Word 4 5 ∷ at kinds.Mark 6 7 ∷ at kinds.Word 8 9
-    ∷ at kinds.Mark 9 10 ∷ at kinds.Word 11 12 ∷ at kinds.Mark 13 14 ∷ at kinds.Word 15 16 ∷ at kinds.Mark 17 18
-    ∷ at kinds.Word 19 20 ∷ at kinds.Mark 21 22 ∷ at kinds.Word 23 24 ∷ []) ([])
-choice = record { tokens_are = refl; fits = search arith; nests = omega arith }
 
 -- `sizeof (void (*)(int, ...))`: a type name with a pointer to a function that takes an int and more
 pointer_to_function : Spells
@@ -143,7 +67,7 @@ member_named_as_type : Spells
     (codes "t" ∷ [])
 member_named_as_type = record { tokens_are = refl; fits = search arith; nests = omega arith }
 
--- `sizeof (enum { A, B = 2, })`: the last enumerator may have a comma behind it
+-- `sizeof (enum { A, B = 2, })`: the last enumerator may have a comma after it
 enumerators : Spells
     (SizeofType (at kinds.Key 0 6) (at kinds.Mark 7 8)
     (Enum (at kinds.Key 8 12) None (at kinds.Mark 13 14)

@@ -1,12 +1,12 @@
 -- How deep a file may nest (C99 6.9), computed on the definitions.
-use Rattle.std.proofs.Common.{◌≡◌, ℕ, ◌+◌, ◌-◌, length, zero, suc, ◌≤◌, Bool, true, ◌&&◌, ap, List, [], ◌∷◌, refl}
+use Rattle.std.proofs.Common.{◌≡◌, ℕ, ◌+◌, ◌-◌, length, zero, suc, ◌≤◌, Bool, true, ◌&&◌, ap, List, [], ◌∷◌, refl, ◌++◌}
 use Rattle.std.proofs.Common.{arith}
 use Rattle.std.specs.Prelude.{codes}
 use Rattle.std.proofs.lemmas.Bool.{false≢true}
 use Rattle.std.proofs.lemmas.Slice.Eq.{bytes_eq-Decides}
 use Rattle.ck_base.specs.declared.tokens.Token.{Token}
 use Rattle.ck_base.specs.declared.tokens.TokenKind.TheVariants as kinds
-use Rattle.ck_grammar.proofs.FilesRead.{one_tree_file}
+use Rattle.ck_grammar.proofs.FilesComplete.{one_tree_file}
 use Rattle.ck_grammar.proofs.TypeStops.{and_left, and_right}
 use Rattle.ck_grammar.proofs.Worked.{at}
 use Rattle.ck_grammar.specs.Fitting.{Fits}
@@ -137,18 +137,18 @@ tests_hold w (p ∷ ps) h =
       tests_hold w ps (and_right b (are_pairs w ps) rest),
     )
 
--- `int main(void) { 0; }` with 100 pairs of parentheses round the 0, and with 201
-abbrev text_100 : List ℕ
-text_100 = codes
-    "int main(void) { ((((((((((((((((((((((((((((((((((((((((((((((((((((((((((((((((((((((((((((((((((((((((((((((((((((0)))))))))))))))))))))))))))))))))))))))))))))))))))))))))))))))))))))))))))))))))))))))))))))))))))); }"
+-- a text so many times before another
+abbrev repeated : ℕ → List ℕ → List ℕ → List ℕ
+repeated zero text more = more
+repeated (suc k) text more = text ++ repeated k text more
 
-abbrev text_201 : List ℕ
-text_201 = codes
-    "int main(void) { (((((((((((((((((((((((((((((((((((((((((((((((((((((((((((((((((((((((((((((((((((((((((((((((((((((((((((((((((((((((((((((((((((((((((((((((((((((((((((((((((((((((((((((((((((((((((((((((((((((((((0))))))))))))))))))))))))))))))))))))))))))))))))))))))))))))))))))))))))))))))))))))))))))))))))))))))))))))))))))))))))))))))))))))))))))))))))))))))))))))))))))))))))))))))))))))))))))))))))))))))))); }"
+-- `int main(void) { 0; }` with so many pairs of parentheses round the 0
+abbrev main_text : ℕ → List ℕ
+main_text k = codes "int main(void) { " ++ repeated k (codes "(") (codes "0" ++ repeated k (codes ")") (codes "; }"))
 
-spelled_100 : SpellsFile (main_of (tokens_at 100) (pairs_at 100 17 217)) text_100
+spelled_100 : SpellsFile (main_of (tokens_at 100) (pairs_at 100 17 217)) (main_text 100)
     (file (main_of (tokens_at 100) (pairs_at 100 17 217)) [])
-spelled_100 = main_spelled text_100 (tokens_at 100) (pairs_at 100 17 217)
+spelled_100 = main_spelled (main_text 100) (tokens_at 100) (pairs_at 100 17 217)
     (record {
       is_int = refl;
       is_name = refl;
@@ -160,11 +160,12 @@ spelled_100 = main_spelled text_100 (tokens_at 100) (pairs_at 100 17 217)
       is_semicolon = refl;
       is_body_end = refl;
     })
-    (tests_hold (word_of text_100 []) (pairs_at 100 17 217) refl) (omega arith)
+    (tests_hold (word_of (main_text 100) []) (pairs_at 100 17 217) refl) (omega arith)
 
-too_deep_201 : (xs : List External) → SpellsFile xs text_201 (file (main_of (tokens_at 201) (pairs_at 201 17 419)) [])
+too_deep_201 : (xs : List External)
+    → SpellsFile xs (main_text 201) (file (main_of (tokens_at 201) (pairs_at 201 17 419)) [])
     → ⊥
-too_deep_201 = main_too_deep text_201 (tokens_at 201) (pairs_at 201 17 419)
+too_deep_201 = main_too_deep (main_text 201) (tokens_at 201) (pairs_at 201 17 419)
     (record {
       is_int = refl;
       is_name = refl;
@@ -176,4 +177,4 @@ too_deep_201 = main_too_deep text_201 (tokens_at 201) (pairs_at 201 17 419)
       is_semicolon = refl;
       is_body_end = refl;
     })
-    (tests_hold (word_of text_201 []) (pairs_at 201 17 419) refl) (omega arith)
+    (tests_hold (word_of (main_text 201) []) (pairs_at 201 17 419) refl) (omega arith)

@@ -1,4 +1,4 @@
--- Worked texts of expressions, computed on the reader: each operator beside one of the next level (C99 6.5.1 to 6.5.17).
+-- Worked texts of expressions, computed on the reader: each operator beside one of the next level (C99 6.5).
 use Rattle.std.proofs.Common.{[], ◌∷◌, refl}
 use Rattle.std.specs.Prelude.{codes}
 use Rattle.ck_grammar.proofs.Grouping.{Groups}

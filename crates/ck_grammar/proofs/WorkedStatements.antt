@@ -54,8 +54,8 @@ initialisers : Files "const struct { int a , b ; } x [ 2 ] = { [ 1 ] = { . b = 3
 initialisers = refl
 
 -- 6.2.3, 6.7.7: a name that a declaration makes a typedef name is a type after it, and a member may be called so too
-typedefs : Files "typedef int t ; struct s { t t ; } ; t f ( t ) { return ( t ) - 1 ; }"
-    "begin typedef int t ; end begin struct s { t t ; } ; end begin t f ( t ) { begin return { ( t ) { - 1 } } ; end } end"
+typedefs : Files "typedef int t ; struct s { t t ; } ; t f ( t ) { ( t ) - 1 ; }"
+    "begin typedef int t ; end begin struct s { t t ; } ; end begin t f ( t ) { begin { ( t ) { - 1 } } ; end } end"
 typedefs = refl
 
 -- 6.9.1

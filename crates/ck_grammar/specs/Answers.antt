@@ -3,6 +3,7 @@
 use Rattle.std.specs.Prelude.{◌≡◌, ℕ, ◌≤◌, List, length, Option, Some, None}
 use Rattle.ck_base.specs.declared.tokens.Token.{Token}
 use Rattle.ck_grammar.specs.Fitting.{Fits}
+use Rattle.ck_grammar.specs.Levels as level
 use Rattle.ck_grammar.specs.Nesting.{nesting}
 use Rattle.ck_grammar.specs.Readers.{Read}
 use Rattle.ck_grammar.specs.Reading.{expr_at}
@@ -13,7 +14,7 @@ use Rattle.ck_grammar.specs.Trees.{Expr}
 use Rattle.ck_grammar.specs.Words.{word_of}
 use Rattle.ck_grammar.specs.Written.{written}
 
--- the tree is written at the front of these tokens, and these stand after it
+-- the tree is written at the front of these tokens, and these are after it
 pub record Begins (e : Expr) (rest : List Token) (bytes : List ℕ) (tokens : List Token)
     (typedefs : List (List ℕ)) : Type 0 where
   pub tokens_are : written e rest ≡ tokens
@@ -40,7 +41,7 @@ AnswersLongest bytes tokens typedefs (Some x) = IsLongest x.0 x.1 bytes tokens t
 -- the reader of expressions answers so, on all tokens
 abbrev pub ReadsExpressions : Type 0
 ReadsExpressions = (bytes : List ℕ) (typedefs : List (List ℕ)) (tokens : List Token)
-    → AnswersLongest bytes tokens typedefs (expr_at (word_of bytes typedefs) most 13 tokens)
+    → AnswersLongest bytes tokens typedefs (expr_at (word_of bytes typedefs) most level.comma tokens)
 
 -- a reader's answer is the file that the tokens spell, or nothing where they spell none
 abbrev pub AnswersFile : List ℕ → List Token → Option (List External) → Type 0

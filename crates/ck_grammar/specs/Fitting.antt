@@ -17,14 +17,14 @@ use Rattle.ck_grammar.specs.Words.{Word, Ordinary, Typedef, Number, String, Is, 
 use Rattle.ck_grammar.specs.Words.{Qualifier, Inline, TypeWord, StructWord, EnumWord, Star, sort, Lead, StepLead}
 use Rattle.ck_grammar.specs.Words.{OperatorLead, SizeofLead, lead, Follow, Point, Steps, Operator, follow}
 
--- the level of an operator, and 0 for what is none
+-- the level of an operator, and that of casts for what is none
 abbrev pub operator_level : Follow → level.Level
 operator_level (Operator k) = k
-operator_level _ = 0
+operator_level _ = level.cast
 
 -- the level of a chain is that of its first operator
 abbrev pub chain_level : (Token → Word) → Operands → level.Level
-chain_level w NoOperands = 0
+chain_level w NoOperands = level.cast
 chain_level w (Operand op e rest) = operator_level (follow (w op))
 
 -- the levels of left-associative operators, which are chains: those from `*` to `||`, and the comma

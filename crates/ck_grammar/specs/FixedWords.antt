@@ -1,4 +1,4 @@
--- The keywords (C99 6.4.1) and punctuators (6.4.6) that tokens of the subset can be, as values, and which token is which.
+-- The keywords (C99 6.4.1) and punctuators (6.4.6) of the subset as values, and which token is which.
 use Rattle.std.specs.Prelude.{◌≡◌, ℕ, List, Option, Some, None, codes}
 use Rattle.ck_base.specs.declared.tokens.TokenKind.{TokenKind}
 use Rattle.ck_grammar.specs.Words.{Fixed, word_by}
@@ -88,5 +88,7 @@ spelling word.Comma = codes ","
 
 -- a token of this kind and text is this fixed word, whatever the typedef names, or it is none
 abbrev pub IsFixedWord : TokenKind → List ℕ → Option FixedWord → Type 0
-IsFixedWord kind text None = (typedefs : List (List ℕ)) (word : FixedWord) → word_by typedefs kind text ≡ Fixed (spelling word) → ⊥
-IsFixedWord kind text (Some word) = (typedefs : List (List ℕ)) → word_by typedefs kind text ≡ Fixed (spelling word)
+IsFixedWord kind text None =
+    (typedefs : List (List ℕ)) (found : FixedWord) → word_by typedefs kind text ≡ Fixed (spelling found) → ⊥
+IsFixedWord kind text (Some found) =
+    (typedefs : List (List ℕ)) → word_by typedefs kind text ≡ Fixed (spelling found)

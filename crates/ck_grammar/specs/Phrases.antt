@@ -3,24 +3,18 @@
 use Rattle.std.specs.Prelude.{ℕ, ◌||◌, List, if◌then◌else◌}
 use Rattle.ck_grammar.specs.Words.{Word, Ordinary, Typedef, Fixed, sort_by, begins_specifiers, lead_by, begins_lead}
 use Rattle.ck_grammar.specs.Words.{◌∈words◌}
-
-pub data Phrase : Type 0 where
-  NamePhrase : Phrase
-  BlockPhrase : Phrase
-  ClosePhrase : Phrase
-  EmptyPhrase : Phrase
-  IfPhrase : Phrase
-  ElsePhrase : Phrase
-  SwitchPhrase : Phrase
-  WhilePhrase : Phrase
-  DoPhrase : Phrase
-  ForPhrase : Phrase
-  CasePhrase : Phrase
-  DefaultPhrase : Phrase
-  GotoPhrase : Phrase
-  JumpPhrase : Phrase
-  ReturnPhrase : Phrase
-  OtherPhrase : Phrase
+pub use Rattle.ck_grammar.specs.declared.classes.Phrase.{Phrase}
+pub use Rattle.ck_grammar.specs.declared.classes.Phrase.TheVariants.{Name as NamePhrase, Block as BlockPhrase}
+pub use Rattle.ck_grammar.specs.declared.classes.Phrase.TheVariants.{Close as ClosePhrase}
+pub use Rattle.ck_grammar.specs.declared.classes.Phrase.TheVariants.{Empty as EmptyPhrase, If as IfPhrase}
+pub use Rattle.ck_grammar.specs.declared.classes.Phrase.TheVariants.{Else as ElsePhrase}
+pub use Rattle.ck_grammar.specs.declared.classes.Phrase.TheVariants.{Switch as SwitchPhrase, While as WhilePhrase}
+pub use Rattle.ck_grammar.specs.declared.classes.Phrase.TheVariants.{Do as DoPhrase}
+pub use Rattle.ck_grammar.specs.declared.classes.Phrase.TheVariants.{For as ForPhrase, Case as CasePhrase}
+pub use Rattle.ck_grammar.specs.declared.classes.Phrase.TheVariants.{Default as DefaultPhrase}
+pub use Rattle.ck_grammar.specs.declared.classes.Phrase.TheVariants.{Goto as GotoPhrase, Jump as JumpPhrase}
+pub use Rattle.ck_grammar.specs.declared.classes.Phrase.TheVariants.{Return as ReturnPhrase}
+pub use Rattle.ck_grammar.specs.declared.classes.Phrase.TheVariants.{Other as OtherPhrase}
 
 abbrev pub phrase_by : List ℕ → Phrase
 phrase_by text =

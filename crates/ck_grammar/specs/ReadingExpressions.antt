@@ -166,7 +166,7 @@ module _ (w : Token → Word) where
         else if tighter == level.conditional then assignment e ts
         else chained e (operand_loop (expr tighter) (suc tighter) (length ts) ts)
 
-    -- the same where the expression nests no deeper than an operand may, else it alone
+    -- what an expression of the level `tighter` is the left end of; it alone, where it nests deeper than an operand may
     abbrev pub more : ℕ → level.Level → Expr → List Token → Expr × List Token
     more n tighter e ts = if nat_le (nesting e) n then more_by tighter e ts else (e, ts)
 

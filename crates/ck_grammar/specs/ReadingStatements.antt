@@ -252,12 +252,13 @@ module _ (bytes : List ℕ) where
   abbrev pub more_declared : ℕ → Bool → ℕ → List (List ℕ) → List Token → MoreDeclared × List Token
   more_declared n types zero typedefs ts = (NoMoreDeclared, ts)
   more_declared n types (suc fuel) typedefs ts = or_else (NoMoreDeclared, ts) do
-    (comma, ts) ← mark (word_of bytes typedefs) "," ts
-    (d, ts) ← declarator_at (word_of bytes typedefs) n NewName ts
-    if not types && is_at (word_of bytes typedefs) "=" ts
+    let w = word_of bytes typedefs
+    (comma, ts) ← mark w "," ts
+    (d, ts) ← declarator_at w n NewName ts
+    if not types && is_at w "=" ts
         then (do
-          (equals, ts) ← mark (word_of bytes typedefs) "=" ts
-          (init, ts) ← init_at (word_of bytes typedefs) n ts
+          (equals, ts) ← mark w "=" ts
+          (init, ts) ← init_at w n ts
           let (rest, ts) = more_declared n types fuel typedefs ts
           Some (AndInitialised comma d equals init rest, ts))
         else (do
@@ -266,16 +267,17 @@ module _ (bytes : List ℕ) where
 
   -- after the first declarator: maybe `=` and an initialiser, and further declarators (6.7)
   abbrev pub declared : ℕ → Bool → List (List ℕ) → Reader Declared
-  declared n types typedefs ts =
-      if not types && is_at (word_of bytes typedefs) "=" ts
-      then (do
-        (equals, ts) ← mark (word_of bytes typedefs) "=" ts
-        (init, ts) ← init_at (word_of bytes typedefs) n ts
-        let (rest, ts) = more_declared n types (length ts) typedefs ts
-        Some (Initialised equals init rest, ts))
-      else (do
-        let (rest, ts) = more_declared n types (length ts) typedefs ts
-        Some (Plainly rest, ts))
+  declared n types typedefs ts = do
+    let w = word_of bytes typedefs
+    if not types && is_at w "=" ts
+        then (do
+          (equals, ts) ← mark w "=" ts
+          (init, ts) ← init_at w n ts
+          let (rest, ts) = more_declared n types (length ts) typedefs ts
+          Some (Initialised equals init rest, ts))
+        else (do
+          let (rest, ts) = more_declared n types (length ts) typedefs ts
+          Some (Plainly rest, ts))
 
   module _ (typedefs : List (List ℕ)) where
     -- the word of a token, where these are the typedef names

@@ -28,7 +28,7 @@ pub data MoreDeclared : Type 0 where
   AndPlainly : Token → Declarator → MoreDeclared → MoreDeclared
   AndInitialised : Token → Declarator → Token → Init → MoreDeclared → MoreDeclared
 
--- what stands after a declarator: maybe `=` and an initialiser, and then further declarators (6.7)
+-- what is after a declarator: maybe `=` and an initialiser, and then further declarators (6.7)
 pub data Declared : Type 0 where
   Plainly : MoreDeclared → Declared
   Initialised : Token → Init → MoreDeclared → Declared

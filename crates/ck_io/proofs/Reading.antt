@@ -1,5 +1,6 @@
 -- A file is read from its start, one piece after another.
-use Rattle.std.proofs.Common.{◌≡◌, inl, inr, ℕ, ◌≤◌, ◌<◌, List, ◌++◌, take, drop, subst, length, Option, Some, None, IsSome, ◌∙◌, ap, sym, append-nil, arith, length-drop, length-append, IfSome}
+use Rattle.std.proofs.Common.{◌≡◌, inl, inr, ℕ, ◌≤◌, ◌<◌, List, ◌++◌, take, drop, subst, length, Option, Some, None}
+use Rattle.std.proofs.Common.{IsSome, ◌∙◌, ap, sym, append-nil, arith, length-drop, length-append, IfSome}
 use Rattle.std.specs.Prelude.{⊤}
 use Rattle.std.proofs.Math.Seq.{take-add}
 use Rattle.std.proofs.lemmas.List.{take_at, take_all, length-take-le}
@@ -42,7 +43,8 @@ prefix_grows_at : (read old new : List ℕ) (at count : ℕ) → at ≡ length r
     → IsPrefix bytes read
     → FillsPrefix (drop at bytes) old new count
     → IsPrefix bytes (read ++ take count new)
-prefix_grows_at read old new at count here bytes prefix fills = prefix_grows bytes read old new count prefix (rw here at fills)
+prefix_grows_at read old new at count here bytes prefix fills =
+    prefix_grows bytes read old new count prefix (rw here at fills)
 
 -- what was read is of the files that were told before
 reads_along : (files later : Files) (name old new : List ℕ) (at count : ℕ)

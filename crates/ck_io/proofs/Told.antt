@@ -1,5 +1,6 @@
 -- What a folder tells of a file that it has.
-use Rattle.std.proofs.Common.{[], ◌∷◌, ◌≡◌, ◌⊎◌, inl, inr, ℕ, List, Bool, true, false, cond, Option, Some, None, IsSome, IfSome, refl, arith}
+use Rattle.std.proofs.Common.{[], ◌∷◌, ◌≡◌, ◌⊎◌, inl, inr, ℕ, List, Bool, true, false, cond, Option, Some, None, IsSome}
+use Rattle.std.proofs.Common.{IfSome, refl, arith}
 use Rattle.std.specs.Prelude.{Contains}
 use Rattle.std.specs.Str.{bytes_eq}
 use Rattle.std.proofs.lemmas.Slice.Eq.{bytes_eq-Decides}
@@ -26,6 +27,7 @@ has_bytes (f ∷ files) name h = some_either (bytes_eq f.name name) f.bytes (byt
     ])
 
 -- what follows of any bytes from two facts
-pub if_some-both : (o : Option (List ℕ)) (P Q R : List ℕ → Type 0) → ((x : List ℕ) → P x → Q x → R x) → IfSome o P → IfSome o Q → IfSome o R
+pub if_some-both : (o : Option (List ℕ)) (P Q R : List ℕ → Type 0)
+    → ((x : List ℕ) → P x → Q x → R x) → IfSome o P → IfSome o Q → IfSome o R
 if_some-both None P Q R f p q = tt
 if_some-both (Some x) P Q R f p q = f x p q

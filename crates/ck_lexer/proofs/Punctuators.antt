@@ -2,7 +2,7 @@
 use Rattle.std.proofs.Common.{◌≡◌, ℕ, zero, suc, ◌<◌, ◌≤◌, Bool, true, false, List, [], ◌∷◌, length, take, get_or, refl, sym, arith, ⊎_elim}
 use Rattle.std.specs.Prelude.{◌&&◌, ◌||◌, ◌==◌, codes, if◌then◌else◌}
 use Rattle.ck_lexer.specs.Preprocessing.{is_punctuator, punctuators}
-use Rattle.ck_lexer.specs.Scanning.{is_one_of, is_shift_assignment, is_ellipsis, is_pair, is_single, mark_size}
+use Rattle.ck_lexer.specs.Scanning.{is_one_of, is_shift_assignment, is_ellipsis, is_pair, is_single, punctuator_size}
 use Rattle.ck_lexer.proofs.Tests.{and-left, and-right, and-not_right, or-either, or-none, no-test, eqb-same, among-texts, among-bytes}
 
 -- the punctuators by their bytes
@@ -49,10 +49,12 @@ pair-punctuator a b h =
     (λ (y : (b == 61 && is_one_of (codes "<>=!*/%+-&^|") a) ≡ true). let e : b ≡ 61 = eqb-same b 61 (and-left (b == 61) _ y) in rw e (equals-punctuator a (and-right (b == 61) _ y)))
     (λ (y : (b == a && is_one_of (codes "+-<>&|") a) ≡ true). let e : b ≡ a = eqb-same b a (and-left (b == a) _ y) in rw e (doubled-punctuator a (and-right (b == a) _ y)))
     (or-either _ _ x))
-    (λ (x : (a == 45 && b == 62) ≡ true). let d : a ≡ 45 = eqb-same a 45 (and-left (a == 45) _ x) in let e : b ≡ 62 = eqb-same b 62 (and-right (a == 45) _ x) in rw (d, e) arrow-punctuator)
+    (λ (x : (a == 45 && b == 62) ≡ true). let d : a ≡ 45 = eqb-same a 45 (and-left (a == 45) _ x) in
+    let e : b ≡ 62 = eqb-same b 62 (and-right (a == 45) _ x) in rw (d, e) arrow-punctuator)
     (or-either _ _ h)
 
-triple-punctuator : (a b c : ℕ) → (is_shift_assignment a b c || is_ellipsis a b c) ≡ true → is_punctuator (a ∷ b ∷ c ∷ []) ≡ true
+triple-punctuator : (a b c : ℕ) → (is_shift_assignment a b c || is_ellipsis a b c) ≡ true
+    → is_punctuator (a ∷ b ∷ c ∷ []) ≡ true
 triple-punctuator a b c h =
     ⊎_elim
     (λ (x : is_shift_assignment a b c ≡ true).
@@ -118,45 +120,66 @@ no_second a =
       zero_doubled e h = let k : is_one_of (codes "+-<>&|") a ≡ false = rw e refl in absurd (cc)
 
 -- a punctuator at the front is no longer than the one that the code takes
-pub punctuator-le : (rest : List ℕ) (m : ℕ) → is_punctuator (take m rest) ≡ true → m ≤ length rest → m ≤ mark_size rest
+pub punctuator-le : (rest : List ℕ) (m : ℕ) → is_punctuator (take m rest) ≡ true → m ≤ length rest
+    → m ≤ punctuator_size rest
 punctuator-le rest zero h fits = omega arith
 punctuator-le [] (suc m) h fits = absurd (omega arith)
-punctuator-le (a ∷ rest) (suc zero) h fits = takes-one (is_shift_assignment a (get_or rest 0 0) (get_or rest 1 0) || is_ellipsis a (get_or rest 0 0) (get_or rest 1 0)) (is_pair a (get_or rest 0 0)) (is_single a) (punctuator-mark (a ∷ []) h)
+punctuator-le (a ∷ rest) (suc zero) h fits = takes-one (is_shift_assignment a (get_or rest 0 0)
+    (get_or rest 1 0) || is_ellipsis a (get_or rest 0 0) (get_or rest 1 0)) (is_pair a (get_or rest 0 0))
+    (is_single a) (punctuator-mark (a ∷ []) h)
 punctuator-le (a ∷ []) (suc (suc m)) h fits = absurd (omega arith)
-punctuator-le (a ∷ b ∷ rest) (suc (suc zero)) h fits = takes-two (is_shift_assignment a b (get_or rest 0 0) || is_ellipsis a b (get_or rest 0 0)) (is_pair a b) (is_single a) (punctuator-mark (a ∷ b ∷ []) h)
+punctuator-le (a ∷ b ∷ rest) (suc (suc zero)) h fits = takes-two
+    (is_shift_assignment a b (get_or rest 0 0) || is_ellipsis a b (get_or rest 0 0)) (is_pair a b) (is_single a)
+    (punctuator-mark (a ∷ b ∷ []) h)
 punctuator-le (a ∷ b ∷ []) (suc (suc (suc m))) h fits = absurd (omega arith)
-punctuator-le (a ∷ b ∷ c ∷ rest) (suc (suc (suc zero))) h fits = takes-three (is_shift_assignment a b c || is_ellipsis a b c) (is_pair a b) (is_single a) (punctuator-mark (a ∷ b ∷ c ∷ []) h)
+punctuator-le (a ∷ b ∷ c ∷ rest) (suc (suc (suc zero))) h fits = takes-three
+    (is_shift_assignment a b c || is_ellipsis a b c) (is_pair a b) (is_single a) (punctuator-mark (a ∷ b ∷ c ∷ []) h)
 punctuator-le (a ∷ b ∷ c ∷ []) (suc (suc (suc (suc m)))) h fits = absurd (omega arith)
-punctuator-le (a ∷ b ∷ c ∷ d ∷ rest) (suc (suc (suc (suc m)))) h fits = let k = punctuator-mark (a ∷ b ∷ c ∷ d ∷ take m rest) h in absurd (cc)
+punctuator-le (a ∷ b ∷ c ∷ d ∷ rest) (suc (suc (suc (suc m)))) h fits = let k = punctuator-mark
+    (a ∷ b ∷ c ∷ d ∷ take m rest) h in absurd (cc)
 
-pub mark-fits : (rest : List ℕ) → mark_size rest ≤ length rest
+pub mark-fits : (rest : List ℕ) → punctuator_size rest ≤ length rest
 mark-fits [] = omega arith
-mark-fits (a ∷ []) = sized-one (is_shift_assignment a 0 0 || is_ellipsis a 0 0) (is_pair a 0) (is_single a) (no_third a 0) (no_second a)
-mark-fits (a ∷ b ∷ []) = sized-two (is_shift_assignment a b 0 || is_ellipsis a b 0) (is_pair a b) (is_single a) (no_third a b)
-mark-fits (a ∷ b ∷ c ∷ rest) = omega (arith, sized-le (is_shift_assignment a b c || is_ellipsis a b c) (is_pair a b) (is_single a))
+mark-fits (a ∷ []) = sized-one (is_shift_assignment a 0 0 || is_ellipsis a 0 0) (is_pair a 0) (is_single a)
+    (no_third a 0) (no_second a)
+mark-fits (a ∷ b ∷ []) = sized-two (is_shift_assignment a b 0 || is_ellipsis a b 0) (is_pair a b) (is_single a)
+    (no_third a b)
+mark-fits (a ∷ b ∷ c ∷ rest) = omega (
+  arith,
+  sized-le (is_shift_assignment a b c || is_ellipsis a b c) (is_pair a b)
+      (is_single a),
+)
 
 -- the text of that size, whichever it is
-one_sized : (a : ℕ) (rest : List ℕ) (one : Bool) → (one ≡ true → is_punctuator (a ∷ []) ≡ true) → 0 < sized false false one → is_punctuator (take (sized false false one) (a ∷ rest)) ≡ true
+one_sized : (a : ℕ) (rest : List ℕ) (one : Bool) → (one ≡ true → is_punctuator (a ∷ []) ≡ true)
+    → 0 < sized false false one → is_punctuator (take (sized false false one) (a ∷ rest)) ≡ true
 one_sized a rest true h some = h refl
 one_sized a rest false h some = absurd (omega arith)
 
-two_sized : (a b : ℕ) (rest : List ℕ) (two one : Bool) → (two ≡ true → is_punctuator (a ∷ b ∷ []) ≡ true) → (one ≡ true → is_punctuator (a ∷ []) ≡ true) → 0 < sized false two one → is_punctuator (take (sized false two one) (a ∷ b ∷ rest)) ≡ true
+two_sized : (a b : ℕ) (rest : List ℕ) (two one : Bool) → (two ≡ true → is_punctuator (a ∷ b ∷ []) ≡ true)
+    → (one ≡ true → is_punctuator (a ∷ []) ≡ true) → 0 < sized false two one
+    → is_punctuator (take (sized false two one) (a ∷ b ∷ rest)) ≡ true
 two_sized a b rest true one g h some = g refl
 two_sized a b rest false one g h some = one_sized a (b ∷ rest) one h some
 
-three_sized : (a b c : ℕ) (rest : List ℕ) (three two one : Bool) → (three ≡ true → is_punctuator (a ∷ b ∷ c ∷ []) ≡ true) → (two ≡ true → is_punctuator (a ∷ b ∷ []) ≡ true) → (one ≡ true → is_punctuator (a ∷ []) ≡ true) → 0 < sized three two one → is_punctuator (take (sized three two one) (a ∷ b ∷ c ∷ rest)) ≡ true
+three_sized : (a b c : ℕ) (rest : List ℕ) (three two one : Bool)
+    → (three ≡ true → is_punctuator (a ∷ b ∷ c ∷ []) ≡ true) → (two ≡ true → is_punctuator (a ∷ b ∷ []) ≡ true)
+    → (one ≡ true → is_punctuator (a ∷ []) ≡ true) → 0 < sized three two one
+    → is_punctuator (take (sized three two one) (a ∷ b ∷ c ∷ rest)) ≡ true
 three_sized a b c rest true two one f g h some = f refl
 three_sized a b c rest false two one f g h some = two_sized a b (c ∷ rest) two one g h some
 
-pub mark-punctuator : (rest : List ℕ) → 0 < mark_size rest → is_punctuator (take (mark_size rest) rest) ≡ true
+pub mark-punctuator : (rest : List ℕ) → 0 < punctuator_size rest
+    → is_punctuator (take (punctuator_size rest) rest) ≡ true
 mark-punctuator [] some = absurd (omega arith)
 mark-punctuator (a ∷ []) some =
     let no : (is_shift_assignment a 0 0 || is_ellipsis a 0 0) ≡ false = no_third a 0 in
-    let size : mark_size (a ∷ []) ≡ sized false false (is_single a) = rw (no, no_second a) refl in
+    let size : punctuator_size (a ∷ []) ≡ sized false false (is_single a) = rw (no, no_second a) refl in
     rw size (one_sized a [] (is_single a) (single-punctuator a) (omega arith))
 mark-punctuator (a ∷ b ∷ []) some =
     let no : (is_shift_assignment a b 0 || is_ellipsis a b 0) ≡ false = no_third a b in
-    let size : mark_size (a ∷ b ∷ []) ≡ sized false (is_pair a b) (is_single a) = rw no refl in
+    let size : punctuator_size (a ∷ b ∷ []) ≡ sized false (is_pair a b) (is_single a) = rw no refl in
     rw size (two_sized a b [] (is_pair a b) (is_single a) (pair-punctuator a b) (single-punctuator a) (omega arith))
 mark-punctuator (a ∷ b ∷ c ∷ rest) some =
-    three_sized a b c rest (is_shift_assignment a b c || is_ellipsis a b c) (is_pair a b) (is_single a) (triple-punctuator a b c) (pair-punctuator a b) (single-punctuator a) some
+    three_sized a b c rest (is_shift_assignment a b c || is_ellipsis a b c) (is_pair a b) (is_single a)
+    (triple-punctuator a b c) (pair-punctuator a b) (single-punctuator a) some

@@ -57,18 +57,23 @@ pub same-eqb : (a b : ℕ) → a ≡ b → (a == b) ≡ true
 same-eqb a b h = (Decides-eqb a b).1 h
 
 -- what holds of each entry of a table holds of what is among them
-pub among-texts : (Q : List ℕ → Bool) (text : List ℕ) (entries : List (List ℕ)) → list_all Q entries ≡ true → list_any (bytes_eq text) entries ≡ true → Q text ≡ true
+pub among-texts : (Q : List ℕ → Bool) (text : List ℕ) (entries : List (List ℕ)) → list_all Q entries ≡ true
+    → list_any (bytes_eq text) entries ≡ true → Q text ≡ true
 among-texts Q text [] all found = absurd (cc)
 among-texts Q text (e ∷ entries) all found =
     ⊎_elim
-    (λ (same : bytes_eq text e ≡ true). ap Q ((bytes_eq-Decides text e).0 same) ∙ and-left (Q e) (list_all Q entries) all)
-    (λ (later : list_any (bytes_eq text) entries ≡ true). among-texts Q text entries (and-right (Q e) (list_all Q entries) all) later)
+    (λ (same : bytes_eq text e ≡ true). ap Q ((bytes_eq-Decides text e).0 same)
+    ∙ and-left (Q e) (list_all Q entries) all)
+    (λ (later : list_any (bytes_eq text) entries ≡ true). among-texts Q text entries
+    (and-right (Q e) (list_all Q entries) all) later)
     (or-either (bytes_eq text e) (list_any (bytes_eq text) entries) found)
 
-pub among-bytes : (Q : ℕ → Bool) (b : ℕ) (entries : List ℕ) → list_all Q entries ≡ true → list_any (λ x. b == x) entries ≡ true → Q b ≡ true
+pub among-bytes : (Q : ℕ → Bool) (b : ℕ) (entries : List ℕ) → list_all Q entries ≡ true
+    → list_any (λ x. b == x) entries ≡ true → Q b ≡ true
 among-bytes Q b [] all found = absurd (cc)
 among-bytes Q b (e ∷ entries) all found =
     ⊎_elim
     (λ (same : (b == e) ≡ true). ap Q (eqb-same b e same) ∙ and-left (Q e) (list_all Q entries) all)
-    (λ (later : list_any (λ x. b == x) entries ≡ true). among-bytes Q b entries (and-right (Q e) (list_all Q entries) all) later)
+    (λ (later : list_any (λ x. b == x) entries ≡ true). among-bytes Q b entries
+    (and-right (Q e) (list_all Q entries) all) later)
     (or-either (b == e) (list_any (λ x. b == x) entries) found)

@@ -25,9 +25,16 @@ fold-le base value (b ∷ digits) some =
 
 pub value-take-le : (base i : ℕ) (digits : List ℕ) → 0 < base → value_of base (take i digits) ≤ value_of base digits
 value-take-le base i digits some =
-    omega (arith, fold-le base (value_of base (take i digits)) (drop i digits) some, fold-append (next_value base) 0 (take i digits) (drop i digits), ap (value_of base) (take-append-drop i digits))
+    omega (
+      arith,
+      fold-le base (value_of base (take i digits)) (drop i digits) some,
+      fold-append (next_value base) 0
+          (take i digits) (drop i digits),
+      ap (value_of base) (take-append-drop i digits),
+    )
 
-pub value_more : (base i : ℕ) (digits : List ℕ) → i < length digits → value_of base (take (i + 1) digits) ≡ value_of base (take i digits) * base + digit_value (get_or digits i 0)
+pub value_more : (base i : ℕ) (digits : List ℕ) → i < length digits
+    → value_of base (take (i + 1) digits) ≡ value_of base (take i digits) * base + digit_value (get_or digits i 0)
 value_more base i digits within = fold_more (next_value base) 0 digits i 0 within
 
 pub base-positive : (base : Base) → 0 < number_of base
@@ -39,17 +46,21 @@ base-positive Hexadecimal = omega arith
 digit-small : (b : ℕ) → is_digit b ≡ true → digit_value b ≤ 9
 digit-small b digit = grind (arith, nat_tests)
 
-fold-small : (value : ℕ) (digits : List ℕ) → list_all is_digit digits ≡ true → fold (next_value 10) value digits < (value + 1) * 10 ^ length digits
+fold-small : (value : ℕ) (digits : List ℕ) → list_all is_digit digits ≡ true
+    → fold (next_value 10) value digits < (value + 1) * 10 ^ length digits
 fold-small value [] all = omega arith
 fold-small value (b ∷ digits) all =
     let parts = and_parts (is_digit b) (list_all is_digit digits) all in
     let power : 10 ^ suc (length digits) ≡ 10 ^ length digits * 10 = pow-suc 10 (length digits) in
-    let rest : fold (next_value 10) (next_value 10 value b) digits < (next_value 10 value b + 1) * 10 ^ length digits = fold-small (next_value 10 value b) digits parts.1 in
+    let rest : fold (next_value 10) (next_value 10 value b) digits <
+    (next_value 10 value b + 1) * 10 ^ length digits = fold-small (next_value 10 value b) digits parts.1 in
     let small : digit_value b + 1 ≤ 10 = omega (arith, digit-small b parts.0) in
-    let more : 10 ^ length digits * (digit_value b + 1) ≤ 10 ^ length digits * 10 = mul-le-mul_left (10 ^ length digits) small in
+    let more : 10 ^ length digits * (digit_value b + 1) ≤ 10 ^ length digits * 10 = mul-le-mul_left
+    (10 ^ length digits) small in
     rw power (omega arith)
 
-pub value-small : (digits : List ℕ) → list_all is_digit digits ≡ true → length digits ≤ 9 → value_of 10 digits < 1000000000
+pub value-small : (digits : List ℕ) → list_all is_digit digits ≡ true → length digits ≤ 9
+    → value_of 10 digits < 1000000000
 value-small digits all few =
     let power : 10 ^ length digits ≤ 10 ^ 9 = pow-le-pow_right {n = 10} (omega arith) {i = length digits} {j = 9} few in
     omega (arith, fold-small 0 digits all)

@@ -4,11 +4,11 @@ use Rattle.std.specs.Prelude.{codes}
 use Rattle.ck_base.specs.declared.refusals.Unsupported.TheVariants.{U3, U4, U5}
 use Rattle.ck_base.specs.declared.tokens.TokenKind.TheVariants.{Word, Key, Number, Char, Text}
 use Rattle.ck_lexer.specs.Constants.{is_integer_constant, is_floating, is_character_constant, is_string_literal}
-use Rattle.ck_lexer.specs.Keywords.{is_keyword, is_refused_word}
+use Rattle.ck_lexer.specs.Keywords.{is_keyword, is_reserved_word}
 use Rattle.ck_lexer.specs.Markers.{is_pragma, are_flags}
-use Rattle.ck_lexer.specs.Pieces.{piece_of}
+use Rattle.ck_lexer.specs.Lexemes.{lexeme_of}
 use Rattle.ck_lexer.specs.Preprocessing.{is_preprocessing_token, is_punctuator}
-use Rattle.ck_lexer.specs.declared.pieces.Piece.TheVariants.{Token, Fault}
+use Rattle.ck_lexer.specs.declared.lexemes.Lexeme.TheVariants.{Token, Fault}
 
 -- `a+++b` is a, ++, +, b
 longest_mark : is_preprocessing_token (codes "++") ≡ true
@@ -28,87 +28,87 @@ three_points : is_preprocessing_token (codes "...") ≡ true
 unfolding is_preprocessing_token is_punctuator
 three_points = refl
 
-floating : piece_of (codes "1.5") ≡ Fault U4
-unfolding piece_of is_integer_constant is_floating
+floating : lexeme_of (codes "1.5") ≡ Fault U4
+unfolding lexeme_of is_integer_constant is_floating
 floating = refl
 
-no_octal : piece_of (codes "08") ≡ Fault U3
-unfolding piece_of is_integer_constant is_floating
+no_octal : lexeme_of (codes "08") ≡ Fault U3
+unfolding lexeme_of is_integer_constant is_floating
 no_octal = refl
 
-binary_exponent : piece_of (codes "0x1p3") ≡ Fault U4
-unfolding piece_of is_integer_constant is_floating
+binary_exponent : lexeme_of (codes "0x1p3") ≡ Fault U4
+unfolding lexeme_of is_integer_constant is_floating
 binary_exponent = refl
 
--- a hexadecimal digit e with a sign behind it makes no integer and no floating constant
-signed_e : piece_of (codes "0x1e+5") ≡ Fault U3
-unfolding piece_of is_integer_constant is_floating
+-- a hexadecimal digit e with a sign after it makes no integer and no floating constant
+signed_e : lexeme_of (codes "0x1e+5") ≡ Fault U3
+unfolding lexeme_of is_integer_constant is_floating
 signed_e = refl
 
-suffixed : piece_of (codes "18446744073709551615uLL") ≡ Token Number
-unfolding piece_of is_integer_constant is_floating
+suffixed : lexeme_of (codes "18446744073709551615uLL") ≡ Token Number
+unfolding lexeme_of is_integer_constant is_floating
 suffixed = refl
 
-too_large : piece_of (codes "9223372036854775808") ≡ Fault U3
-unfolding piece_of is_integer_constant is_floating
+too_large : lexeme_of (codes "9223372036854775808") ≡ Fault U3
+unfolding lexeme_of is_integer_constant is_floating
 too_large = refl
 
-hexadecimal : piece_of (codes "0x8000000000000000L") ≡ Token Number
-unfolding piece_of is_integer_constant is_floating
+hexadecimal : lexeme_of (codes "0x8000000000000000L") ≡ Token Number
+unfolding lexeme_of is_integer_constant is_floating
 hexadecimal = refl
 
-zero : piece_of (codes "0") ≡ Token Number
-unfolding piece_of is_integer_constant is_floating
+zero : lexeme_of (codes "0") ≡ Token Number
+unfolding lexeme_of is_integer_constant is_floating
 zero = refl
 
-no_digits : piece_of (codes "0x") ≡ Fault U3
-unfolding piece_of is_integer_constant is_floating
+no_digits : lexeme_of (codes "0x") ≡ Fault U3
+unfolding lexeme_of is_integer_constant is_floating
 no_digits = refl
 
-mixed_suffix : piece_of (codes "1lL") ≡ Fault U3
-unfolding piece_of is_integer_constant is_floating
+mixed_suffix : lexeme_of (codes "1lL") ≡ Fault U3
+unfolding lexeme_of is_integer_constant is_floating
 mixed_suffix = refl
 
 -- character constants: one byte, or one escape up to 255
-two_characters : piece_of (codes "'ab'") ≡ Fault U3
-unfolding piece_of is_character_constant
+two_characters : lexeme_of (codes "'ab'") ≡ Fault U3
+unfolding lexeme_of is_character_constant
 two_characters = refl
 
-no_character : piece_of (codes "''") ≡ Fault U3
-unfolding piece_of is_character_constant
+no_character : lexeme_of (codes "''") ≡ Fault U3
+unfolding lexeme_of is_character_constant
 no_character = refl
 
-octal : piece_of (codes "'\\377'") ≡ Token Char
-unfolding piece_of is_character_constant
+octal : lexeme_of (codes "'\\377'") ≡ Token Char
+unfolding lexeme_of is_character_constant
 octal = refl
 
-octal_too_large : piece_of (codes "'\\400'") ≡ Fault U3
-unfolding piece_of is_character_constant
+octal_too_large : lexeme_of (codes "'\\400'") ≡ Fault U3
+unfolding lexeme_of is_character_constant
 octal_too_large = refl
 
-hexadecimal_escape : piece_of (codes "'\\x0FF'") ≡ Token Char
-unfolding piece_of is_character_constant
+hexadecimal_escape : lexeme_of (codes "'\\x0FF'") ≡ Token Char
+unfolding lexeme_of is_character_constant
 hexadecimal_escape = refl
 
-unknown_escape : piece_of (codes "'\\q'") ≡ Fault U3
-unfolding piece_of is_character_constant
+unknown_escape : lexeme_of (codes "'\\q'") ≡ Fault U3
+unfolding lexeme_of is_character_constant
 unknown_escape = refl
 
-escaped_quote : piece_of (codes "'\\''") ≡ Token Char
-unfolding piece_of is_character_constant
+escaped_quote : lexeme_of (codes "'\\''") ≡ Token Char
+unfolding lexeme_of is_character_constant
 escaped_quote = refl
 
 -- string literals: `"\1234"` is an octal escape and a 4
-strings : piece_of (codes "\"\\1234\\x41 '\\n\"") ≡ Token Text
-unfolding piece_of is_string_literal
+strings : lexeme_of (codes "\"\\1234\\x41 '\\n\"") ≡ Token Text
+unfolding lexeme_of is_string_literal
 strings = refl
 
-empty_string : piece_of (codes "\"\"") ≡ Token Text
-unfolding piece_of is_string_literal
+empty_string : lexeme_of (codes "\"\"") ≡ Token Text
+unfolding lexeme_of is_string_literal
 empty_string = refl
 
-bad_string : piece_of (codes "\"\\400\"") ≡ Fault U3
-unfolding piece_of is_string_literal
+bad_string : lexeme_of (codes "\"\\400\"") ≡ Fault U3
+unfolding lexeme_of is_string_literal
 bad_string = refl
 
 -- a quote in the middle closes a literal
@@ -116,16 +116,16 @@ no_literal : is_preprocessing_token (codes "\"a\"b\"") ≡ false
 unfolding is_preprocessing_token is_punctuator
 no_literal = refl
 
-key : piece_of (codes "while") ≡ Token Key
-unfolding piece_of is_keyword is_refused_word
+key : lexeme_of (codes "while") ≡ Token Key
+unfolding lexeme_of is_keyword is_reserved_word
 key = refl
 
-word : piece_of (codes "while_") ≡ Token Word
-unfolding piece_of is_keyword is_refused_word
+word : lexeme_of (codes "while_") ≡ Token Word
+unfolding lexeme_of is_keyword is_reserved_word
 word = refl
 
-refused : piece_of (codes "__attribute__") ≡ Fault U5
-unfolding piece_of is_keyword is_refused_word
+refused : lexeme_of (codes "__attribute__") ≡ Fault U5
+unfolding lexeme_of is_keyword is_reserved_word
 refused = refl
 
 pragma : is_pragma (codes "#pragmafoo") ≡ true

@@ -1,46 +1,58 @@
--- The classes of bytes that the lexer knows (C99 5.2.1, 6.4; docs/TOKENS.md, "Bytes").
-use Rattle.std.specs.Prelude.{ℕ, Bool, ◌||◌, ◌&&◌, not, ◌==◌, nat_le}
+-- The classes of bytes that the lexer knows (C99 5.2.1, 6.4; docs/TOKENS.md, "Bytes"), and how many bytes a file has.
+use Rattle.std.specs.Prelude.{ℕ, Bool, ◌||◌, ◌&&◌, not, ◌==◌}
+use Rattle.ck_base.specs.Characters.{◌∈◌, ◌∈range◌}
+
+-- the most bytes that a file has: 1 MiB
+abbrev pub most_bytes : ℕ
+most_bytes = 1048576
 
 abbrev pub is_line_feed : ℕ → Bool
-is_line_feed b = b == 10
+is_line_feed b = b ∈ "\n"
 
 abbrev pub is_no_line_feed : ℕ → Bool
 is_no_line_feed b = not (is_line_feed b)
 
 -- a space or a tab
 abbrev pub is_blank : ℕ → Bool
-is_blank b = b == 32 || b == 9
+is_blank b = b ∈ " \t"
 
 abbrev pub is_no_blank : ℕ → Bool
 is_no_blank b = not (is_blank b)
 
--- what parts tokens: space, tab, line feed, vertical tab, form feed, carriage return
-abbrev pub is_separator : ℕ → Bool
-is_separator b = b == 32 || (nat_le 9 b && nat_le b 13)
+-- white space (6.4): a space; or tab, line feed, vertical tab, form feed or carriage return, which have codes in a row
+abbrev pub is_white_space : ℕ → Bool
+is_white_space b = b ∈ " " || b ∈range "\t\r"
+
+-- white space within a line
+abbrev pub is_line_space : ℕ → Bool
+is_line_space b = is_white_space b && is_no_line_feed b
 
 abbrev pub is_digit : ℕ → Bool
-is_digit b = nat_le 48 b && nat_le b 57
+is_digit b = b ∈range "09"
 
 abbrev pub is_octal_digit : ℕ → Bool
-is_octal_digit b = nat_le 48 b && nat_le b 55
+is_octal_digit b = b ∈range "07"
 
 abbrev pub is_hexadecimal_digit : ℕ → Bool
-is_hexadecimal_digit b = (nat_le 48 b && nat_le b 57) || (nat_le 97 b && nat_le b 102) || (nat_le 65 b && nat_le b 70)
+is_hexadecimal_digit b = b ∈range "09" || b ∈range "af" || b ∈range "AF"
 
 -- an ASCII letter or the underscore
 abbrev pub is_nondigit : ℕ → Bool
-is_nondigit b = (nat_le 97 b && nat_le b 122) || (nat_le 65 b && nat_le b 90) || b == 95
+is_nondigit b = b ∈range "az" || b ∈range "AZ" || b ∈ "_"
 
--- a byte of an identifier behind its first
-abbrev pub is_word_byte : ℕ → Bool
-is_word_byte b = is_nondigit b || is_digit b
+-- a byte of an identifier after the first
+abbrev pub is_identifier_byte : ℕ → Bool
+is_identifier_byte b = is_nondigit b || is_digit b
 
+-- '
 abbrev pub quote : ℕ
 quote = 39
 
+-- "
 abbrev pub double_quote : ℕ
 double_quote = 34
 
+-- \
 abbrev pub backslash : ℕ
 backslash = 92
 

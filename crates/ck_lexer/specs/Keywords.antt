@@ -1,4 +1,4 @@
--- Keywords (C99 6.4.1), and the words outside the subset (docs/LANGUAGE.md).
+-- Keywords (C99 6.4.1), and the reserved words outside the subset (docs/LANGUAGE.md).
 use Rattle.std.specs.Prelude.{ℕ, Bool, List, [], ◌∷◌, codes}
 use Rattle.std.specs.List.{list_any}
 use Rattle.std.specs.Str.{bytes_eq}
@@ -13,8 +13,8 @@ keywords =
     ∷ codes "typedef" ∷ codes "unsigned" ∷ codes "void" ∷ codes "volatile" ∷ codes "while" ∷ codes "_Bool" ∷ []
 
 -- the other keywords of C99, and words that compilers reserve
-abbrev pub refused_words : List (List ℕ)
-refused_words =
+abbrev pub reserved_words : List (List ℕ)
+reserved_words =
     codes "float" ∷ codes "double" ∷ codes "union" ∷ codes "_Complex" ∷ codes "_Imaginary"
     ∷ codes "asm" ∷ codes "__asm" ∷ codes "__asm__" ∷ codes "__attribute" ∷ codes "__attribute__"
     ∷ codes "__extension__" ∷ codes "typeof" ∷ codes "__typeof__" ∷ []
@@ -22,5 +22,5 @@ refused_words =
 unfoldable pub is_keyword : List ℕ → Bool
 is_keyword text = list_any (bytes_eq text) keywords
 
-unfoldable pub is_refused_word : List ℕ → Bool
-is_refused_word text = list_any (bytes_eq text) refused_words
+unfoldable pub is_reserved_word : List ℕ → Bool
+is_reserved_word text = list_any (bytes_eq text) reserved_words

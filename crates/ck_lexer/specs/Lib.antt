@@ -1,13 +1,18 @@
-pub mod Bytes
-pub mod Constants
-pub mod Cuts
-pub mod Keywords
-pub mod Laws
-pub mod Mapping
-pub mod Markers
-pub mod Pieces
-pub mod PlaceMaps
-pub mod Places
-pub mod Preprocessing
-pub mod Scanning
+-- What is promised: read this first
 pub mod Tokens
+pub mod Places
+pub mod Laws
+pub mod Runs
+-- What it rests on
+pub mod Cuts
+pub mod Lexemes
+pub mod Preprocessing
+pub mod Keywords
+pub mod Constants
+pub mod Markers
+pub mod Bytes
+-- From memory to plain values
+pub mod PlaceMaps
+-- Private: contracts inside the crate alone speak of these
+pub mod Scanning
+pub mod Mapping

@@ -1,11 +1,13 @@
 -- Lines that begin with `#`: line markers and pragmas (docs/TOKENS.md, "Markers and pragmas"). A line is here without its
 -- line feed, and begins at its `#`.
-use Rattle.std.specs.Prelude.{◌≡◌, ◌≤◌, ◌<◌, ℕ, Bool, true, false, ◌||◌, ◌&&◌, not, nat_le, nat_eq, List, [], ◌∷◌, ◌++◌, length, drop, codes}
+use Rattle.std.specs.Prelude.{◌≡◌, ◌≤◌, ◌<◌, ℕ, Bool, true, false, ◌||◌, ◌&&◌, not, nat_eq, List, [], ◌∷◌, ◌++◌, length, drop, codes}
 use Rattle.std.specs.List.{list_all, starts_with, prefix_len}
+use Rattle.ck_base.specs.Characters.{◌∈range◌}
 use Rattle.ck_lexer.specs.Bytes.{is_blank, is_digit, double_quote}
 use Rattle.ck_lexer.specs.Constants.{value_of}
 use Rattle.ck_lexer.specs.Preprocessing.{is_closed}
 
+-- #
 abbrev pub hash : ℕ
 hash = 35
 
@@ -17,10 +19,10 @@ abbrev pub is_pragma : List ℕ → Bool
 is_pragma [] = false
 is_pragma (b ∷ text) = is_pragma_text text
 
--- flags 1 to 4, each after blanks
 abbrev pub is_flag : ℕ → Bool
-is_flag b = nat_le 49 b && nat_le b 52
+is_flag b = b ∈range "14"
 
+-- flags 1 to 4, each after blanks; `blanks` says that blanks were just passed
 abbrev pub flags_from : Bool → List ℕ → Bool
 flags_from blanks [] = not blanks
 flags_from false (b ∷ text) = is_blank b && flags_from true text

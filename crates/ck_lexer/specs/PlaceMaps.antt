@@ -5,7 +5,7 @@ use Rattle.std.specs.List.{All, HoldsAt}
 use Rattle.std.specs.List.Sorted.{IsNonDecreasingBy}
 use Rattle.std.specs.declared.alloc.Global.{Global}
 use Rattle.std.specs.declared.vec.Vec.{Vec}
-use Rattle.ck_lexer.specs.Bytes.{is_line_feed}
+use Rattle.ck_lexer.specs.Bytes.{is_line_feed, most_bytes}
 use Rattle.ck_lexer.specs.Places.{IsPlace, Place}
 use Rattle.ck_lexer.specs.declared.places.Line.{Line}
 use Rattle.ck_lexer.specs.declared.places.PlaceMap.{PlaceMap}
@@ -14,7 +14,7 @@ use Rattle.ck_lexer.specs.declared.places.PlaceName.{PlaceName}
 abbrev pub place_of : PlaceName → Place
 place_of p = record { name = p.name.now; line = p.line; column = p.column }
 
--- no line feed stands from a place up to a place
+-- there is no line feed between two offsets
 abbrev pub NoFeeds : List ℕ → ℕ → ℕ → Type 0
 NoFeeds bytes from to = (at : ℕ) → from ≤ at → at < to → is_line_feed (slice_index bytes at) ≡ false
 
@@ -31,26 +31,27 @@ start_of line = line.start
 abbrev pub name_on : List (List ℕ) → Line → List ℕ
 name_on names line = slice_index_or names line.name []
 
--- the place of a byte on a line
+-- the place of an offset on a line
 abbrev pub place_on : List (List ℕ) → Line → ℕ → Place
 place_on names line offset = record { name = name_on names line; line = line.number; column = offset - line.start + 1 }
 
--- a line of a file: from its start up to its line feed, or the file's end, each place has its name and its number
+-- a line of a file: from its start up to its line feed, or the file's end, each offset has its name and its number
 pub record IsLineOf (name bytes : List ℕ) (names : List (List ℕ)) (line : Line) : Type 0 where
   pub known : line.name < length names
-  pub places : (offset : ℕ) → line.start ≤ offset → offset ≤ length bytes → NoFeeds bytes line.start offset → IsPlace name bytes offset (place_on names line offset)
+  pub places : (offset : ℕ) → line.start ≤ offset → offset ≤ length bytes → NoFeeds bytes line.start offset
+      → IsPlace name bytes offset (place_on names line offset)
 
 abbrev pub StartsAt : ℕ → Line → Type 0
 StartsAt at line = line.start ≡ at
 
--- one of these lines starts at this place
+-- one of these lines starts at this offset
 abbrev pub HasStart : List Line → ℕ → Type 0
 HasStart lines at = (k : ℕ) × (k < length lines) × HoldsAt (StartsAt at) lines k
 
 -- The lines of a file of at most 1,048,576 bytes, whose columns therefore fit 32 bits: each is a line of it, they are in
--- order, one starts at the file's start, and one behind each line feed.
+-- order, one starts at the file's start, and one after each line feed.
 pub record IsPlaceMapOf (name bytes : List ℕ) (m : PlaceMap) : Type 0 where
-  pub small : length bytes ≤ 1048576
+  pub small : length bytes ≤ most_bytes
   pub lines : All (IsLineOf name bytes (names_of m.names.items)) m.lines.items
   pub order : IsNonDecreasingBy start_of m.lines.items
   pub first : HasStart m.lines.items 0

@@ -1,13 +1,17 @@
--- How the code goes over the bytes, from the front. Private contracts alone speak of it; proofs/ join it with the definitions.
+-- How the code goes over the bytes, from the first on. Private contracts alone speak of it; proofs/ join it with the definitions.
 use Rattle.std.specs.Prelude.{ℕ, suc, ◌+◌, ◌-◌, Bool, ◌||◌, ◌&&◌, ◌==◌, nat_le, List, [], ◌∷◌, take, drop, codes, slice_index, Option, Some, None, if◌then◌else◌}
 use Rattle.std.specs.List.{list_any, prefix_len}
 use Rattle.std.specs.Option.{option_map}
+use Rattle.ck_base.specs.declared.refusals.Refusal.{Refusal}
+use Rattle.ck_base.specs.declared.tokens.Token.{Token}
+use Rattle.ck_base.specs.Characters.{◌∈◌}
 use Rattle.ck_lexer.specs.Bytes.{backslash, double_quote, quote, is_blank, is_digit, is_line_feed}
 use Rattle.ck_lexer.specs.Constants.{value_of}
 use Rattle.ck_lexer.specs.Markers.{are_flags, hash}
-use Rattle.ck_lexer.specs.Pieces.{character_piece, string_piece}
+use Rattle.ck_lexer.specs.Lexemes.{character_lexeme, string_lexeme}
 use Rattle.ck_lexer.specs.Preprocessing.{goes_on}
-use Rattle.ck_lexer.specs.declared.pieces.Piece.{Piece}
+use Rattle.ck_lexer.specs.Tokens.{AreTokensBetween, IsFirstFault}
+use Rattle.ck_lexer.specs.declared.lexemes.Lexeme.{Lexeme}
 use Rattle.ck_lexer.specs.declared.markers.Marked.{Marked}
 use Rattle.ck_lexer.specs.declared.literals.Step.{Step}
 use Rattle.ck_lexer.specs.declared.literals.Step.TheVariants.{On, Closed, Broken}
@@ -20,55 +24,60 @@ run_after last (b ∷ text) = if goes_on last b then suc (run_after b text) else
 abbrev pub moved_by : ℕ → Option ℕ → Option ℕ
 moved_by k found = option_map (λ n. n + k) found
 
--- how many bytes of a literal follow its first quote, up to the quote that closes it
+-- how many bytes of a literal follow its first quote, up to and with the quote that closes it
 abbrev pub closing : ℕ → List ℕ → Option ℕ
 closing mark [] = None
 closing mark (b ∷ []) = if b == mark then Some 1 else None
 closing mark (b ∷ c ∷ text) =
     if b == backslash then (if is_line_feed c then None else option_map (λ n. n + 2) (closing mark text))
-    else (if b == mark then Some 1
-    else (if is_line_feed b then None
-    else option_map (λ n. n + 1) (closing mark (c ∷ text))))
+    else if b == mark then Some 1
+    else if is_line_feed b then None
+    else option_map (λ n. n + 1) (closing mark (c ∷ text))
 
--- how many bytes the longest punctuator at the front takes
 abbrev pub is_one_of : List ℕ → ℕ → Bool
 is_one_of bytes b = list_any (λ x. b == x) bytes
 
 abbrev pub is_shift_assignment : ℕ → ℕ → ℕ → Bool
-is_shift_assignment a b c = is_one_of (codes "<>") a && b == a && c == 61
+is_shift_assignment a b c = is_one_of (codes "<>") a && b == a && c ∈ "="
 
 abbrev pub is_ellipsis : ℕ → ℕ → ℕ → Bool
-is_ellipsis a b c = a == 46 && b == 46 && c == 46
+is_ellipsis a b c = a ∈ "." && b ∈ "." && c ∈ "."
 
 abbrev pub is_pair : ℕ → ℕ → Bool
 is_pair a b =
-    (b == 61 && is_one_of (codes "<>=!*/%+-&^|") a) || (b == a && is_one_of (codes "+-<>&|") a) || (a == 45 && b == 62)
+    (b ∈ "=" && is_one_of (codes "<>=!*/%+-&^|") a) || (b == a && is_one_of (codes "+-<>&|") a) || (a ∈ "-" && b ∈ ">")
 
 abbrev pub is_single : ℕ → Bool
 is_single a = is_one_of (codes "[](){}.&*+-~!/%<>^|?:;=,") a
 
-abbrev pub mark_size : List ℕ → ℕ
-mark_size rest =
-    if is_shift_assignment (slice_index rest 0) (slice_index rest 1) (slice_index rest 2) || is_ellipsis (slice_index rest 0) (slice_index rest 1) (slice_index rest 2) then 3
-    else (if is_pair (slice_index rest 0) (slice_index rest 1) then 2
-    else (if is_single (slice_index rest 0) then 1
-    else 0))
+-- how many bytes the longest punctuator that the text begins with takes
+abbrev pub punctuator_size : List ℕ → ℕ
+punctuator_size rest =
+    if is_shift_assignment (slice_index rest 0) (slice_index rest 1) (slice_index rest 2)
+    || is_ellipsis (slice_index rest 0) (slice_index rest 1) (slice_index rest 2) then 3
+    else if is_pair (slice_index rest 0) (slice_index rest 1) then 2
+    else if is_single (slice_index rest 0) then 1
+    else 0
 
--- one step of it
+-- what comes first in the rest of a literal after its first quote
 abbrev pub literal_step : ℕ → List ℕ → Step
 literal_step mark [] = Broken
 literal_step mark (b ∷ []) = if b == mark then Closed else Broken
 literal_step mark (b ∷ c ∷ text) =
     if b == backslash then (if is_line_feed c then Broken else On 2)
-    else (if b == mark then Closed
-    else (if is_line_feed b then Broken
-    else On 1))
+    else if b == mark then Closed
+    else if is_line_feed b then Broken
+    else On 1
 
--- what is left behind the blanks at the front
+-- a lexeme that begins with none of these bytes has no line feed, and is no marker
+abbrev pub may_end_line : ℕ → Bool
+may_end_line b = b ∈ "\n/#"
+
+-- what is left after the blanks that come first
 abbrev pub after_blanks : List ℕ → List ℕ
 after_blanks text = drop (prefix_len is_blank text) text
 
--- A line marker, read step by step, each step over what is left of the line: its flags, its name behind the quote, the
+-- A line marker, read step by step, each step over what is left of the line: its flags, its name after the quote, the
 -- quote, its digits, and the whole line from its `#`.
 abbrev pub marker_flags : ℕ → List ℕ → List ℕ → Option (ℕ × List ℕ)
 marker_flags number name text = if are_flags text then Some (number, name) else None
@@ -97,5 +106,10 @@ abbrev pub marked_parts : Marked → ℕ × List ℕ
 marked_parts m = (m.number, m.name.now)
 
 -- a literal with both its quotes, by the first
-abbrev pub literal_piece : List ℕ → Piece
-literal_piece text = if slice_index text 0 == quote then character_piece text else string_piece text
+abbrev pub literal_lexeme : List ℕ → Lexeme
+literal_lexeme text = if slice_index text 0 == quote then character_lexeme text else string_lexeme text
+
+-- what is read of a file up to an offset: its tokens so far, or its first fault
+abbrev pub IsReadTo : ℕ → List ℕ → List Token → Option Refusal → ℕ → Type 0
+IsReadTo file bytes tokens None at = AreTokensBetween file bytes 0 tokens at
+IsReadTo file bytes tokens (Some refusal) at = IsFirstFault file bytes refusal

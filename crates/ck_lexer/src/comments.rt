@@ -1,19 +1,25 @@
 //! Comments between `/*` and `*/`.
 ghost use Rattle.std.specs.Prelude.{◌≡◌, ◌≤◌, ◌<◌, ℕ, false, true, MatchOption};
-ghost use Rattle.ck_lexer.specs.Pieces.{closes_at};
+ghost use Rattle.ck_lexer.specs.Lexemes as spec;
 
-/// Where the first `*/` stands behind the `/*` at the front.
+use crate::runs::{Class, class_run};
+
+/// The offset of the first `*/` after the `/*` that the text begins with.
 pub(crate) fn comment_close(rest: &[u8]) -> Option<usize>
     ensures { MatchOption result
-        ((k : ℕ) → 2 ≤ k → closes_at rest.now k ≡ false)
-        (λ k. (2 ≤ k) × (closes_at rest.now k ≡ true) × ((j : ℕ) → 2 ≤ j → j < k → closes_at rest.now j ≡ false)) }
+        ((k : ℕ) → 2 ≤ k → spec.closes_at rest.now k ≡ false)
+        (λ k. (2 ≤ k) × (spec.closes_at rest.now k ≡ true) × ((j : ℕ) → 2 ≤ j → j < k → spec.closes_at rest.now j ≡ false)) }
 {
     let mut at = 2;
-    while at + 1 < rest.len() {
-        if rest[at] == b'*' && rest[at + 1] == b'/' {
-            return Some(at);
+    'stars: while at < rest.len() {
+        let star = at + class_run(rest, at, &Class::NotStar);
+        if star + 1 >= rest.len() {
+            return None;
         }
-        at += 1;
+        if rest[star + 1] == b'/' {
+            return Some(star);
+        }
+        at = star + 1;
     }
     None
 }

@@ -1,12 +1,14 @@
-//! The tokens of a file.
-ghost use Rattle.std.specs.Prelude.{◌≡◌, ◌+◌, ◌<◌, ◌≤◌, ◌⊎◌, ◌++◌, ◌∷◌, [], List, length, IfOk, IfErr, IsOkAnd, OnOk};
+//! The tokens of a file, or its first fault.
+ghost use Rattle.std.specs.Prelude.{◌≡◌, ◌+◌, ◌<◌, ◌≤◌, ◌⊎◌, ◌↔◌, ◌++◌, ◌∷◌};
+ghost use Rattle.std.specs.Prelude.{[], List, length, IfOk, IfErr, IsNone, IsOkAnd, OnOk};
 ghost use Rattle.ck_base.specs.declared.refusals.Refusal.{Refusal};
 ghost use Rattle.ck_base.specs.declared.tokens.Token.{Token as FileToken};
-ghost use Rattle.ck_lexer.specs.Pieces.{marked_size as size_of_mark};
-ghost use Rattle.ck_lexer.specs.Tokens.{AreTokens, IsFirstFault};
+ghost use Rattle.ck_lexer.specs.Bytes.{most_bytes};
+ghost use Rattle.ck_lexer.specs.Lexemes as lexeme;
+ghost use Rattle.ck_lexer.specs.Tokens.{AreTokens, HasTokens, IsFirstFault};
 
-use crate::pieces::{Piece, piece_at};
-use ck_base::{Fault, Refusal, Span, Spot, Token, Unsupported};
+use crate::lexemes::{Lexeme, lexeme_at};
+use ck_base::{Fault, Refusal, Span, Spot, Token, TokenKind, Unsupported};
 use std::alloc::Global;
 
 /// Adds a token at the end.
@@ -20,9 +22,23 @@ fn push(tokens: &mut Vec<Token>, token: Token) -> Result<(), Fault>
     }
 }
 
-/// How many bytes a refusal marks of a piece of this size.
+/// The token of this kind that takes the bytes of a file from `start` to `end`.
+pub(crate) fn token(file: u32, kind: TokenKind, start: usize, end: usize) -> Token
+    requires rises { start ≤ end }
+    requires within { end ≤ most_bytes }
+    ensures { result ≡ record { kind = kind; span = record { file = file; start = start; end = end } } }
+{
+    let span = Span {
+        file,
+        start: start as u32,
+        end: end as u32,
+    };
+    Token { kind, span }
+}
+
+/// The length of the span that a refusal reports, of a lexeme of this size.
 fn marked_size(kind: Unsupported, size: usize) -> usize
-    ensures { result ≡ size_of_mark kind size }
+    ensures { result ≡ lexeme.marked_size kind size }
 {
     match kind {
         Unsupported::U2 | Unsupported::U6 => 1,
@@ -30,11 +46,15 @@ fn marked_size(kind: Unsupported, size: usize) -> usize
     }
 }
 
-/// The refusal of a piece of the file that begins at this offset.
-fn refusal(file: u32, kind: Unsupported, start: usize, size: usize) -> Refusal
-    requires within { start + size ≤ 1048576 }
+/// The refusal of a lexeme of the file that begins at this offset.
+pub(crate) fn refusal(file: u32, kind: Unsupported, start: usize, size: usize) -> Refusal
+    requires within { start + size ≤ most_bytes }
     requires some { 0 < size }
-    ensures { result ≡ record { kind = kind; at = Spot.At (record { file = file; start = start; end = start + size_of_mark kind size }) } }
+    ensures { result ≡ record {
+      kind = kind;
+      at = Spot.At (record
+          { file = file; start = start; end = start + lexeme.marked_size kind size });
+    } }
 {
     let end = start + marked_size(kind, size);
     Refusal {
@@ -54,32 +74,48 @@ fn refusal(file: u32, kind: Unsupported, start: usize, size: usize) -> Refusal
 /// end, U3 a literal that is too wide or malformed, U4 a floating constant, U5 a word outside the
 /// subset, U6 a bad line marker. Nothing else is refused, but for want of memory.
 pub fn lex(alloc: Global, file: u32, bytes: &[u8]) -> Result<Vec<Token>, Fault>
-    requires { length bytes.now ≤ 1048576 }
+    requires { length bytes.now ≤ most_bytes }
     ensures tokens { IfOk result (λ tokens. AreTokens file bytes.now tokens.items) }
-    ensures fault { (refusal : Refusal) → result ≡ Err (Fault.Unsupported refusal) → IsFirstFault file bytes.now refusal }
-    ensures only_tokens { (tokens : List FileToken) → AreTokens file bytes.now tokens → (result ≡ Err Fault.Memory) ⊎ IsOkAnd result (λ v. v.items ≡ tokens) }
-    ensures only_fault { (refusal : Refusal) → IsFirstFault file bytes.now refusal → (result ≡ Err Fault.Memory) ⊎ (result ≡ Err (Fault.Unsupported refusal)) }
+    ensures fault { (refusal : Refusal) → result ≡ Err (Fault.Unsupported refusal)
+        → IsFirstFault file bytes.now refusal }
+    ensures only_tokens { (tokens : List FileToken) → AreTokens file bytes.now tokens
+        → (result ≡ Err Fault.Memory) ⊎ IsOkAnd result (λ v. v.items ≡ tokens) }
+    ensures only_fault { (refusal : Refusal) → IsFirstFault file bytes.now refusal
+        → (result ≡ Err Fault.Memory) ⊎ (result ≡ Err (Fault.Unsupported refusal)) }
 {
     let mut tokens = Vec::new(alloc);
     let mut at = 0;
     while at < bytes.len() {
-        let front = piece_at(bytes, at);
-        let end = at + front.size;
-        match front.piece {
-            Piece::Gap => {}
-            Piece::Token(kind) => {
-                let span = Span {
-                    file,
-                    start: at as u32,
-                    end: end as u32,
-                };
-                push(&mut tokens, Token { kind, span })?;
-            }
-            Piece::Fault(kind) => {
-                return Err(Fault::Unsupported(refusal(file, kind, at, front.size)));
+        let scanned = lexeme_at(bytes, at);
+        let end = at + scanned.size;
+        match scanned.lexeme {
+            Lexeme::Trivia => {}
+            Lexeme::Token(kind) => push(&mut tokens, token(file, kind, at, end))?,
+            Lexeme::Fault(kind) => {
+                return Err(Fault::Unsupported(refusal(file, kind, at, scanned.size)));
             }
         }
         at = end;
     }
     Ok(tokens)
+}
+
+/// The first fault of a file's bytes, or none where they have tokens (C99 6.4; docs/TOKENS.md). It
+/// takes no memory, so each file has either tokens or a first fault, and none has both.
+pub fn first_fault(file: u32, bytes: &[u8]) -> Option<Refusal>
+    requires { length bytes.now ≤ most_bytes }
+    ensures tokens { IsNone result ↔ HasTokens file bytes.now }
+    ensures fault { (refusal : Refusal) → (result ≡ Some refusal) ↔ IsFirstFault file bytes.now refusal }
+{
+    let mut at = 0;
+    while at < bytes.len() {
+        let scanned = lexeme_at(bytes, at);
+        match scanned.lexeme {
+            Lexeme::Trivia => {}
+            Lexeme::Token(_) => {}
+            Lexeme::Fault(kind) => return Some(refusal(file, kind, at, scanned.size)),
+        }
+        at += scanned.size;
+    }
+    None
 }

@@ -1,28 +1,15 @@
 //! Character constants and string literals.
 ghost use Rattle.std.specs.Prelude.{◌≡◌, ◌+◌, ◌<◌, ◌≤◌, length, drop, slice_index, IfSome};
-ghost use Rattle.ck_lexer.specs.Constants.{
-  are_characters as characters,
-  between_quotes as inside,
-  character_size as size_of_character,
-  escape_size as size_of_escape,
-  hexadecimal_escape,
-  if_byte,
-  is_character_constant as character_constant,
-  is_simple_escape as simple_escape,
-  is_string_literal as string_literal,
-  number_of,
-  octal_size,
-  value_of as value_of_digits,
-};
-ghost use Rattle.ck_lexer.specs.Scanning.{closing, literal_step, moved_by};
+ghost use Rattle.ck_lexer.specs.Constants as spec;
+ghost use Rattle.ck_lexer.specs.Scanning as scan;
 
 use crate::bytes::is_octal_digit;
 use crate::numbers::{Base, digits_length, value_of};
 
-/// What stands behind a byte of a literal.
+/// What comes next in a literal.
 #[derive(Clone, Copy)]
 pub enum Step {
-    /// The literal goes on behind so many bytes.
+    /// The literal goes on after so many bytes.
     On(usize),
     /// The closing quote.
     Closed,
@@ -30,9 +17,9 @@ pub enum Step {
     Broken,
 }
 
-/// What stands at the front of the rest of a literal that began with this quote.
+/// What comes first in the rest of a literal that began with this quote.
 fn next_step(quote: u8, rest: &[u8]) -> Step
-    ensures { result ≡ literal_step quote rest.now }
+    ensures { result ≡ scan.literal_step quote rest.now }
 {
     match rest {
         [b'\\', b'\n', ..] => Step::Broken,
@@ -46,7 +33,7 @@ fn next_step(quote: u8, rest: &[u8]) -> Step
 /// How many bytes follow a literal's first quote, up to the same quote that closes it on its line,
 /// whatever the literal's characters are.
 pub(crate) fn closing_length(quote: u8, text: &[u8]) -> Option<usize>
-    ensures found { result ≡ closing quote text.now }
+    ensures found { result ≡ scan.closing quote text.now }
     ensures within { IfSome result (λ size. (0 < size) × (size ≤ length text.now)) }
 {
     let mut length = 0;
@@ -60,9 +47,9 @@ pub(crate) fn closing_length(quote: u8, text: &[u8]) -> Option<usize>
     None
 }
 
-/// Whether a simple escape is this byte behind its backslash.
+/// Whether a simple escape is this byte after its backslash.
 fn is_simple_escape(byte: u8) -> bool
-    ensures { result ≡ simple_escape byte }
+    ensures { result ≡ spec.is_simple_escape byte }
 {
     matches!(
         byte,
@@ -72,7 +59,7 @@ fn is_simple_escape(byte: u8) -> bool
 
 /// The size of an escape whose digits have a value up to 255.
 fn size_if_byte(base: Base, digits: &[u8], size: usize) -> Option<usize>
-    ensures { result ≡ if_byte (value_of_digits (number_of base) digits.now) size }
+    ensures { result ≡ spec.if_byte (spec.value_of (spec.number_of base) digits.now) size }
 {
     match value_of(base, digits) {
         Some(0..=255) => Some(size),
@@ -82,7 +69,7 @@ fn size_if_byte(base: Base, digits: &[u8], size: usize) -> Option<usize>
 
 /// How many digits an octal escape has.
 fn octal_length(text: &[u8]) -> usize
-    ensures size { result ≡ octal_size text.now }
+    ensures size { result ≡ spec.octal_size text.now }
     ensures within { result ≤ length text.now }
 {
     digits_length(Base::Octal, text).min(3)
@@ -90,7 +77,7 @@ fn octal_length(text: &[u8]) -> usize
 
 /// The size of a hexadecimal escape, with its `x`, by what follows that.
 fn hexadecimal_size(text: &[u8]) -> Option<usize>
-    ensures size { result ≡ hexadecimal_escape text.now }
+    ensures size { result ≡ spec.hexadecimal_escape text.now }
     ensures within { IfSome result (λ size. size ≤ length text.now + 1) }
 {
     let length = digits_length(Base::Hexadecimal, text);
@@ -100,9 +87,9 @@ fn hexadecimal_size(text: &[u8]) -> Option<usize>
     size_if_byte(Base::Hexadecimal, &text[..length], length + 1)
 }
 
-/// How many bytes an escape takes behind its backslash, where it has a value up to 255.
+/// How many bytes an escape takes after its backslash, where it has a value up to 255.
 fn escape_size(text: &[u8]) -> Option<usize>
-    ensures size { result ≡ size_of_escape text.now }
+    ensures size { result ≡ spec.escape_size text.now }
     ensures within { IfSome result (λ size. size ≤ length text.now) }
 {
     match text {
@@ -116,10 +103,10 @@ fn escape_size(text: &[u8]) -> Option<usize>
     }
 }
 
-/// How many bytes the character at the front takes, where it is one.
+/// How many bytes the first character takes, where it is one.
 fn character_size(text: &[u8]) -> Option<usize>
     requires { 0 < length text.now }
-    ensures size { result ≡ size_of_character text.now }
+    ensures size { result ≡ spec.character_size text.now }
     ensures some { IfSome result (λ size. 0 < size) }
     ensures within { IfSome result (λ size. size ≤ length text.now) }
 {
@@ -132,9 +119,9 @@ fn character_size(text: &[u8]) -> Option<usize>
     }
 }
 
-/// Whether these bytes are characters, one behind another.
+/// Whether these bytes are characters, each after the other.
 fn are_characters(text: &[u8]) -> bool
-    ensures { result ≡ characters text.now }
+    ensures { result ≡ spec.are_characters text.now }
 {
     let mut at = 0;
     while at < text.len() {
@@ -146,9 +133,9 @@ fn are_characters(text: &[u8]) -> bool
     true
 }
 
-/// What stands between a literal's quotes.
+/// What is between a literal's quotes.
 fn between_quotes(text: &[u8]) -> &[u8]
-    ensures { result.now ≡ inside text.now }
+    ensures { result.now ≡ spec.between_quotes text.now }
 {
     match text {
         [_, inside @ .., _] => inside,
@@ -159,7 +146,7 @@ fn between_quotes(text: &[u8]) -> &[u8]
 /// Whether a character constant holds one byte, or one escape of a value up to 255.
 #[tactic(auto, unfolding(crate::specs::Constants::is_character_constant))]
 pub(crate) fn is_character_constant(text: &[u8]) -> bool
-    ensures { result ≡ character_constant text.now }
+    ensures { result ≡ spec.is_character_constant text.now }
 {
     let inside = between_quotes(text);
     !inside.is_empty() && character_size(inside) == Some(inside.len())
@@ -168,16 +155,15 @@ pub(crate) fn is_character_constant(text: &[u8]) -> bool
 /// Whether a string literal holds bytes and escapes of values up to 255 alone.
 #[tactic(auto, unfolding(crate::specs::Constants::is_string_literal))]
 pub(crate) fn is_string_literal(text: &[u8]) -> bool
-    ensures { result ≡ string_literal text.now }
+    ensures { result ≡ spec.is_string_literal text.now }
 {
     are_characters(between_quotes(text))
 }
 
-/// How many bytes the literal takes whose first quote stands at the front, where it is closed on its
-/// line.
+/// How many bytes the literal takes whose first quote is the first byte, where it is closed on its line.
 pub(crate) fn literal_length(rest: &[u8]) -> Option<usize>
     requires { 0 < length rest.now }
-    ensures { result ≡ moved_by 1 (closing (slice_index rest.now 0) (drop 1 rest.now)) }
+    ensures { result ≡ scan.moved_by 1 (scan.closing (slice_index rest.now 0) (drop 1 rest.now)) }
 {
     match closing_length(rest[0], &rest[1..]) {
         Some(size) => Some(size + 1),

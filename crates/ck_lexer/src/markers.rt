@@ -2,10 +2,10 @@
 ghost use Rattle.std.specs.Prelude.{◌≡◌, ◌-◌, ◌<◌, ◌≤◌, true, length, take, drop};
 ghost use Rattle.std.specs.List.{list_all};
 ghost use Rattle.std.specs.Option.{option_map};
-ghost use Rattle.ck_lexer.specs.Bytes.{is_digit as digit};
-ghost use Rattle.ck_lexer.specs.Constants.{value_of as value_of_digits};
-ghost use Rattle.ck_lexer.specs.Markers.{are_flags as flags, flags_from as flags_behind, is_flag as flag, is_pragma as pragma};
-ghost use Rattle.ck_lexer.specs.Scanning.{after_blanks as behind_blanks, marked_parts, marker_flags, marker_name, marker_number, marker_of};
+ghost use Rattle.ck_lexer.specs.Bytes as byte;
+ghost use Rattle.ck_lexer.specs.Constants as constant;
+ghost use Rattle.ck_lexer.specs.Markers as spec;
+ghost use Rattle.ck_lexer.specs.Scanning as scan;
 
 use crate::bytes::{blank_length, is_blank};
 use crate::literals::closing_length;
@@ -18,22 +18,22 @@ pub struct Marked<'a> {
     pub name: &'a [u8],
 }
 
-/// What is left behind the blanks at the front.
+/// What is left after the blanks that come first.
 fn after_blanks(text: &[u8]) -> &[u8]
-    ensures { result.now ≡ behind_blanks text.now }
+    ensures { result.now ≡ scan.after_blanks text.now }
 {
     text.get(blank_length(text)..).unwrap_or_default()
 }
 
 fn is_flag(byte: u8) -> bool
-    ensures { result ≡ flag byte }
+    ensures { result ≡ spec.is_flag byte }
 {
     matches!(byte, b'1'..=b'4')
 }
 
 /// Whether these are flags, each after blanks.
 fn are_flags(text: &[u8]) -> bool
-    ensures { result ≡ flags text.now }
+    ensures { result ≡ spec.are_flags text.now }
 {
     let mut blanks = false;
     for byte in text {
@@ -48,12 +48,13 @@ fn are_flags(text: &[u8]) -> bool
     !blanks
 }
 
-/// A marker by its number, what stands behind the name's first quote, and how many bytes of that end
-/// with the closing quote.
+/// A marker by its number, what is after the name's first quote, and how many bytes of that end with
+/// the closing quote.
 fn with_closed_name(number: u32, text: &[u8], closing: usize) -> Option<Marked<'_>>
     requires some { 0 < closing }
     requires within { closing ≤ length text.now }
-    ensures { option_map marked_parts result ≡ marker_flags number (take (closing - 1) text.now) (drop closing text.now) }
+    ensures { option_map scan.marked_parts result ≡ scan.marker_flags number (take (closing - 1) text.now)
+        (drop closing text.now) }
 {
     if are_flags(&text[closing..]) {
         let name = &text[..closing - 1];
@@ -63,9 +64,9 @@ fn with_closed_name(number: u32, text: &[u8], closing: usize) -> Option<Marked<'
     }
 }
 
-/// A marker by its number and what stands behind the blanks after that.
+/// A marker by its number and what is after the blanks after that.
 fn with_name(number: u32, text: &[u8]) -> Option<Marked<'_>>
-    ensures { option_map marked_parts result ≡ marker_name number text.now }
+    ensures { option_map scan.marked_parts result ≡ scan.marker_name number text.now }
 {
     match text {
         [b'"', rest @ ..] => match closing_length(b'"', rest) {
@@ -79,8 +80,8 @@ fn with_name(number: u32, text: &[u8]) -> Option<Marked<'_>>
 /// The value of 9 decimal digits at most.
 fn small_value(digits: &[u8]) -> u32
     requires few { length digits.now ≤ 9 }
-    requires digits { list_all digit digits.now ≡ true }
-    ensures { result ≡ value_of_digits 10 digits.now }
+    requires digits { list_all byte.is_digit digits.now ≡ true }
+    ensures { result ≡ constant.value_of 10 digits.now }
 {
     let mut value = 0;
     for byte in digits {
@@ -89,9 +90,9 @@ fn small_value(digits: &[u8]) -> u32
     value
 }
 
-/// A marker by what stands behind the blanks after its `#`.
+/// A marker by what is after the blanks after its `#`.
 fn with_number(text: &[u8]) -> Option<Marked<'_>>
-    ensures { option_map marked_parts result ≡ marker_number text.now }
+    ensures { option_map scan.marked_parts result ≡ scan.marker_number text.now }
 {
     let length = digits_length(Base::Decimal, text);
     if length == 0 || length > 9 {
@@ -103,7 +104,7 @@ fn with_number(text: &[u8]) -> Option<Marked<'_>>
 
 /// What a line gives, where it is a line marker. It begins at its `#` and ends before its line feed.
 pub(crate) fn marker(line: &[u8]) -> Option<Marked<'_>>
-    ensures { option_map marked_parts result ≡ marker_of line.now }
+    ensures { option_map scan.marked_parts result ≡ scan.marker_of line.now }
 {
     match line {
         [b'#', text @ ..] => with_number(after_blanks(text)),
@@ -113,7 +114,7 @@ pub(crate) fn marker(line: &[u8]) -> Option<Marked<'_>>
 
 /// Whether a line is a pragma.
 pub(crate) fn is_pragma(line: &[u8]) -> bool
-    ensures { result ≡ pragma line.now }
+    ensures { result ≡ spec.is_pragma line.now }
 {
     match line {
         [_, text @ ..] => after_blanks(text).starts_with(b"pragma"),

@@ -1,10 +1,10 @@
 //! Punctuators.
 ghost use Rattle.std.specs.Prelude.{◌≡◌, codes, slice_index};
-ghost use Rattle.ck_lexer.specs.Scanning.{is_ellipsis as ellipsis, is_one_of, is_pair as pair, is_shift_assignment as shift_assignment, is_single as single, mark_size};
+ghost use Rattle.ck_lexer.specs.Scanning as spec;
 
 /// Whether `=` may follow this byte in a punctuator.
 fn takes_equals(byte: u8) -> bool
-    ensures { result ≡ is_one_of (codes "<>=!*/%+-&^|") byte }
+    ensures { result ≡ spec.is_one_of (codes "<>=!*/%+-&^|") byte }
 {
     matches!(
         byte,
@@ -14,25 +14,25 @@ fn takes_equals(byte: u8) -> bool
 
 /// Whether this byte may be doubled in a punctuator.
 fn is_doubled(byte: u8) -> bool
-    ensures { result ≡ is_one_of (codes "+-<>&|") byte }
+    ensures { result ≡ spec.is_one_of (codes "+-<>&|") byte }
 {
     matches!(byte, b'+' | b'-' | b'<' | b'>' | b'&' | b'|')
 }
 
 fn is_shift_assignment(first: u8, second: u8, third: u8) -> bool
-    ensures { result ≡ shift_assignment first second third }
+    ensures { result ≡ spec.is_shift_assignment first second third }
 {
     matches!(first, b'<' | b'>') && second == first && third == b'='
 }
 
 fn is_ellipsis(first: u8, second: u8, third: u8) -> bool
-    ensures { result ≡ ellipsis first second third }
+    ensures { result ≡ spec.is_ellipsis first second third }
 {
     first == b'.' && second == b'.' && third == b'.'
 }
 
 fn is_pair(first: u8, second: u8) -> bool
-    ensures { result ≡ pair first second }
+    ensures { result ≡ spec.is_pair first second }
 {
     (second == b'=' && takes_equals(first))
         || (second == first && is_doubled(first))
@@ -40,7 +40,7 @@ fn is_pair(first: u8, second: u8) -> bool
 }
 
 fn is_single(byte: u8) -> bool
-    ensures { result ≡ single byte }
+    ensures { result ≡ spec.is_single byte }
 {
     matches!(
         byte,
@@ -77,9 +77,9 @@ fn byte_at(text: &[u8], index: usize) -> u8
     text.get(index).copied().unwrap_or(0)
 }
 
-/// How many bytes the longest punctuator at the front takes; 0 where none stands there.
-pub(crate) fn mark_length(rest: &[u8]) -> usize
-    ensures { result ≡ mark_size rest.now }
+/// How many bytes the longest punctuator that the text begins with takes; 0 where it begins with none.
+pub(crate) fn punctuator_length(rest: &[u8]) -> usize
+    ensures { result ≡ spec.punctuator_size rest.now }
 {
     let (first, second, third) = (byte_at(rest, 0), byte_at(rest, 1), byte_at(rest, 2));
     if is_shift_assignment(first, second, third) || is_ellipsis(first, second, third) {

@@ -2,28 +2,11 @@
 ghost use Rattle.std.specs.Prelude.{◌≡◌, ◌+◌, ◌*◌, ◌<◌, ◌^◌, ◌&&◌, nat_lt, length, drop, slice_index, SomeIff};
 ghost use Rattle.std.specs.List.{list_any, prefix_len};
 ghost use Rattle.std.specs.Str.{bytes_eq};
-ghost use Rattle.ck_lexer.specs.Constants.{
-  after_prefix as part_after_prefix,
-  base_of as base_of_text,
-  begins_hexadecimal,
-  digit_value as value_of_digit,
-  is_binary_exponent,
-  is_decimal_exponent,
-  is_digit_of,
-  is_floating as floating,
-  is_integer_constant as integer_constant,
-  is_point,
-  is_suffix as suffix_is,
-  number_of,
-  signed_suffixes,
-  unsigned_suffixes,
-  value_limit,
-  value_of as value_of_digits,
-};
+ghost use Rattle.ck_lexer.specs.Constants as spec;
 ghost use Rattle.ck_lexer.specs.Preprocessing.{goes_on as may_follow};
 ghost use Rattle.ck_lexer.specs.Scanning.{run_after};
 
-use crate::bytes::{is_digit, is_hexadecimal_digit, is_octal_digit, is_word_byte};
+use crate::bytes::{is_digit, is_hexadecimal_digit, is_identifier_byte, is_octal_digit};
 use crate::words::is_among;
 
 /// The base of an integer constant.
@@ -38,12 +21,12 @@ pub enum Base {
 fn goes_on(last: u8, byte: u8) -> bool
     ensures { result ≡ may_follow last byte }
 {
-    is_word_byte(byte)
+    is_identifier_byte(byte)
         || byte == b'.'
         || (matches!(byte, b'+' | b'-') && matches!(last, b'e' | b'E' | b'p' | b'P'))
 }
 
-/// How many bytes the number at the front takes.
+/// How many bytes the number takes that the text begins with.
 pub(crate) fn number_length(rest: &[u8]) -> usize
     requires { 0 < length rest.now }
     ensures { result ≡ 1 + run_after (slice_index rest.now 0) (drop 1 rest.now) }
@@ -59,7 +42,7 @@ pub(crate) fn number_length(rest: &[u8]) -> usize
 
 /// The value of a digit of any base up to 16.
 fn digit_value(byte: u8) -> u64
-    ensures { result ≡ value_of_digit byte }
+    ensures { result ≡ spec.digit_value byte }
 {
     u64::from(match byte {
         b'0'..=b'9' => byte - b'0',
@@ -70,11 +53,10 @@ fn digit_value(byte: u8) -> u64
 
 impl Base {
     ghost use Rattle.std.specs.Prelude.{◌≡◌};
-    ghost use Rattle.ck_lexer.specs.Constants.{is_decimal as decimal, is_digit_of, number_of};
 
     /// The base as a number.
     fn number(self) -> u64
-        ensures { result ≡ number_of self }
+        ensures { result ≡ spec.number_of self }
     {
         match self {
             Base::Decimal => 10,
@@ -84,14 +66,14 @@ impl Base {
     }
 
     fn is_decimal(self) -> bool
-        ensures { result ≡ decimal self }
+        ensures { result ≡ spec.is_decimal self }
     {
         matches!(self, Base::Decimal)
     }
 
     /// Whether a byte is a digit of this base.
     fn has_digit(self, byte: u8) -> bool
-        ensures { result ≡ is_digit_of self byte }
+        ensures { result ≡ spec.is_digit_of self byte }
     {
         match self {
             Base::Decimal => is_digit(byte),
@@ -103,7 +85,8 @@ impl Base {
 
 /// A value with one more digit at its end, where it is less than 2^64.
 fn with_digit(value: u64, base: Base, byte: u8) -> Option<u64>
-    ensures { SomeIff result (value * number_of base + value_of_digit byte < 2 ^ 64) (value * number_of base + value_of_digit byte) }
+    ensures { SomeIff result (value * spec.number_of base + spec.digit_value byte < 2 ^ 64)
+        (value * spec.number_of base + spec.digit_value byte) }
 {
     match value.checked_mul(base.number()) {
         Some(product) => product.checked_add(digit_value(byte)),
@@ -113,7 +96,8 @@ fn with_digit(value: u64, base: Base, byte: u8) -> Option<u64>
 
 /// The value of these digits, where it is less than 2^64.
 pub(crate) fn value_of(base: Base, digits: &[u8]) -> Option<u64>
-    ensures { SomeIff result (value_of_digits (number_of base) digits.now < 2 ^ 64) (value_of_digits (number_of base) digits.now) }
+    ensures { SomeIff result (spec.value_of (spec.number_of base) digits.now < 2 ^ 64)
+        (spec.value_of (spec.number_of base) digits.now) }
 {
     let mut value = 0;
     for digit in digits {
@@ -127,14 +111,14 @@ pub(crate) fn value_of(base: Base, digits: &[u8]) -> Option<u64>
 
 /// Whether the constant begins with `0x` or `0X`.
 fn is_hexadecimal(text: &[u8]) -> bool
-    ensures { result ≡ begins_hexadecimal text.now }
+    ensures { result ≡ spec.begins_hexadecimal text.now }
 {
     matches!(text, [b'0', b'x' | b'X', ..])
 }
 
 /// The base of an integer constant, by its prefix.
 fn base_of(text: &[u8]) -> Base
-    ensures { result ≡ base_of_text text.now }
+    ensures { result ≡ spec.base_of text.now }
 {
     if is_hexadecimal(text) {
         Base::Hexadecimal
@@ -147,7 +131,7 @@ fn base_of(text: &[u8]) -> Base
 
 /// A constant without its prefix.
 fn after_prefix(base: Base, text: &[u8]) -> &[u8]
-    ensures { result.now ≡ part_after_prefix base text.now }
+    ensures { result.now ≡ spec.after_prefix base text.now }
 {
     match base {
         Base::Hexadecimal => text.get(2..).unwrap_or_default(),
@@ -155,9 +139,9 @@ fn after_prefix(base: Base, text: &[u8]) -> &[u8]
     }
 }
 
-/// How many digits of this base stand at the front.
+/// How many digits of this base come first.
 pub(crate) fn digits_length(base: Base, text: &[u8]) -> usize
-    ensures { result ≡ prefix_len (is_digit_of base) text.now }
+    ensures { result ≡ prefix_len (spec.is_digit_of base) text.now }
 {
     text.iter()
         .take_while(|byte| base.has_digit(**byte))
@@ -175,28 +159,29 @@ const SIGNED_SUFFIXES: [&str; 5] = ["", "l", "L", "ll", "LL"];
 
 /// Whether this is a suffix of a constant of an unsigned type.
 fn is_unsigned_suffix(text: &[u8]) -> bool
-    ensures { result ≡ list_any (bytes_eq text.now) unsigned_suffixes }
+    ensures { result ≡ list_any (bytes_eq text.now) spec.unsigned_suffixes }
 {
     is_among(&UNSIGNED_SUFFIXES, text)
 }
 
 /// Whether this is another suffix.
 fn is_signed_suffix(text: &[u8]) -> bool
-    ensures { result ≡ list_any (bytes_eq text.now) signed_suffixes }
+    ensures { result ≡ list_any (bytes_eq text.now) spec.signed_suffixes }
 {
     is_among(&SIGNED_SUFFIXES, text)
 }
 
 /// Whether a type of 64 bits at most holds a constant of this base, value and suffix.
 fn has_type(base: Base, value: u64, suffix: &[u8]) -> bool
-    ensures { result ≡ nat_lt value (value_limit base suffix.now) }
+    ensures { result ≡ nat_lt value (spec.value_limit base suffix.now) }
 {
     value < 1 << 63 || !(base.is_decimal() && is_signed_suffix(suffix))
 }
 
 /// Whether these digits with this suffix are a constant of a type that exists within 64 bits.
 fn is_integer_of(base: Base, digits: &[u8], suffix: &[u8]) -> bool
-    ensures { result ≡ (nat_lt 0 (length digits.now) && suffix_is suffix.now && nat_lt (value_of_digits (number_of base) digits.now) (value_limit base suffix.now)) }
+    ensures { result ≡ (nat_lt 0 (length digits.now) && spec.is_suffix suffix.now && nat_lt
+        (spec.value_of (spec.number_of base) digits.now) (spec.value_limit base suffix.now)) }
 {
     if digits.is_empty() || !(is_unsigned_suffix(suffix) || is_signed_suffix(suffix)) {
         return false;
@@ -210,7 +195,7 @@ fn is_integer_of(base: Base, digits: &[u8], suffix: &[u8]) -> bool
 /// Whether a number is an integer constant of a type that exists within 64 bits.
 #[tactic(auto, unfolding(crate::specs::Constants::is_integer_constant))]
 pub(crate) fn is_integer_constant(text: &[u8]) -> bool
-    ensures { result ≡ integer_constant text.now }
+    ensures { result ≡ spec.is_integer_constant text.now }
 {
     let base = base_of(text);
     let part = after_prefix(base, text);
@@ -220,21 +205,21 @@ pub(crate) fn is_integer_constant(text: &[u8]) -> bool
 
 /// Whether there is a point in a number.
 fn has_point(text: &[u8]) -> bool
-    ensures { result ≡ list_any is_point text.now }
+    ensures { result ≡ list_any spec.is_point text.now }
 {
     text.iter().any(|byte| *byte == b'.')
 }
 
 /// Whether there is an exponent of base 10 in a number.
 fn has_decimal_exponent(text: &[u8]) -> bool
-    ensures { result ≡ list_any is_decimal_exponent text.now }
+    ensures { result ≡ list_any spec.is_decimal_exponent text.now }
 {
     text.iter().any(|byte| matches!(*byte, b'e' | b'E'))
 }
 
 /// Whether there is an exponent of base 2 in a number.
 fn has_binary_exponent(text: &[u8]) -> bool
-    ensures { result ≡ list_any is_binary_exponent text.now }
+    ensures { result ≡ list_any spec.is_binary_exponent text.now }
 {
     text.iter().any(|byte| matches!(*byte, b'p' | b'P'))
 }
@@ -242,7 +227,7 @@ fn has_binary_exponent(text: &[u8]) -> bool
 /// Whether a number is meant as a floating constant: it has a point, or an exponent of its base.
 #[tactic(auto, unfolding(crate::specs::Constants::is_floating))]
 pub(crate) fn is_floating(text: &[u8]) -> bool
-    ensures { result ≡ floating text.now }
+    ensures { result ≡ spec.is_floating text.now }
 {
     if has_point(text) {
         true

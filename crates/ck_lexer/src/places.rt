@@ -1,17 +1,23 @@
 //! Names, lines and columns of a file's bytes (docs/TOKENS.md, "Places").
-ghost use Rattle.std.specs.Prelude.{◌≡◌, ◌≤◌, ◌++◌, ◌∷◌, ℕ, [], List, length, slice_index_or, IfOk, OnOk, MatchOption};
+ghost use Rattle.std.specs.Prelude.{◌≡◌, ◌≤◌, ◌<◌, ◌++◌, ◌∷◌, ℕ};
+ghost use Rattle.std.specs.Prelude.{[], List, length, slice_index_or, IfOk, OnOk, MatchOption};
 ghost use Rattle.std.specs.List.Sorted.{IsNonDecreasingBy};
-ghost use Rattle.ck_lexer.specs.Mapping.{GoesOn, IsLastBefore, IsMarked, IsNumbered, IsUnmarked};
+ghost use Rattle.ck_lexer.specs.Bytes.{most_bytes};
+ghost use Rattle.ck_lexer.specs.Cuts.{IsLexeme};
+ghost use Rattle.ck_lexer.specs.Mapping.{GoesOn, IsAtOrAfterFeed, IsLastBefore};
+ghost use Rattle.ck_lexer.specs.Mapping.{IsMapped, IsMarked, IsNumbered, IsUnmarked};
 ghost use Rattle.ck_lexer.specs.PlaceMaps.{HasStart, IsPlaceMapOf, names_of, place_of, start_of};
 ghost use Rattle.ck_lexer.specs.Places.{IsPlace};
+ghost use Rattle.ck_lexer.specs.Scanning as scan;
+ghost use Rattle.ck_lexer.specs.declared.lexemes.Lexeme.{Lexeme};
 
+use crate::lexemes::{is_clear, lexeme_at};
 use crate::markers::{Marked, marker};
-use crate::pieces::{is_clear, piece_at};
 use ck_base::OutOfMemory;
 use std::alloc::Global;
 
-/// Where a byte stands: the name and the line that the last line marker before it gives, or the
-/// file's own, and the column. Lines and columns count from 1; the name is as it stands in the marker.
+/// Where a byte is: the name and the line that the last line marker before it gives, or the
+/// file's own, and the column. Lines and columns count from 1; the name is as it is in the marker.
 #[derive(Clone, Copy)]
 pub struct PlaceName<'a> {
     pub name: &'a [u8],
@@ -21,14 +27,21 @@ pub struct PlaceName<'a> {
 
 /// A line of a file: where it starts, its number, and its name's index.
 #[derive(Clone, Copy)]
-struct Line {
+pub(crate) struct Line {
     start: u32,
     number: u32,
     name: usize,
 }
 
+/// The line and the offset after a lexeme.
+#[derive(Clone, Copy)]
+pub(crate) struct Passed {
+    pub on: Line,
+    pub at: usize,
+}
+
 /// The file's first line, as long as no marker comes.
-const FIRST: Line = Line {
+pub(crate) const FIRST: Line = Line {
     start: 0,
     number: 1,
     name: 0,
@@ -57,7 +70,7 @@ fn push_name(alloc: Global, names: &mut Vec<Vec<u8>>, name: &[u8]) -> Result<(),
     Ok(())
 }
 
-/// What the marker gives that takes the bytes from `at` to `end`, where its line feed stands behind it.
+/// What the marker gives that takes the bytes from `at` to `end`, where a line feed comes after it.
 fn marked_line(bytes: &[u8], at: usize, end: usize) -> Option<Marked<'_>>
     requires rises { at ≤ end }
     requires within { end ≤ length bytes.now }
@@ -80,7 +93,7 @@ fn push_lines(
     at: usize,
     end: usize,
 ) -> Result<Line, OutOfMemory>
-    requires small { length bytes.now ≤ 1048576 }
+    requires small { length bytes.now ≤ most_bytes }
     requires rises { at ≤ end }
     requires within { end ≤ length bytes.now }
     requires begun { on.start ≤ at }
@@ -102,41 +115,111 @@ fn push_lines(
     Ok(line)
 }
 
-/// The places of a file's bytes, of which there are at most 1,048,576, in time that grows with them
-/// (docs/TOKENS.md, "Places").
-///
-/// `name` is the file's own name, which holds until a line marker comes. Faults are passed over like
-/// any piece of the file. Nothing is refused, but for want of memory.
-pub fn place_map(alloc: Global, name: &str, bytes: &[u8]) -> Result<PlaceMap, OutOfMemory>
-    requires { length bytes.now ≤ 1048576 }
-    ensures { IfOk result (IsPlaceMapOf name.now bytes.now) }
+/// The map of a file up to its start: one line, with the file's own name.
+pub(crate) fn empty_map(alloc: Global, name: &str) -> Result<PlaceMap, OutOfMemory>
+    ensures { IfOk result (λ map. (bytes : List ℕ) → IsMapped name.now bytes map FIRST 0) }
 {
     let mut names = Vec::new(alloc);
     push_name(alloc, &mut names, name.as_bytes())?;
     let mut lines = Vec::new(alloc);
     push_line(&mut lines, FIRST)?;
+    Ok(PlaceMap { names, lines })
+}
+
+/// Passes a lexeme that may hold line feeds or be a marker, as `pass` does.
+fn pass_line_ends(
+    alloc: Global,
+    map: &mut PlaceMap,
+    on: Line,
+    bytes: &[u8],
+    at: usize,
+    end: usize,
+) -> Result<Passed, OutOfMemory>
+    requires small { length bytes.now ≤ most_bytes }
+    requires rises { at ≤ end }
+    requires within { end ≤ length bytes.now }
+    requires begun { on.start ≤ at }
+    requires numbered { IsNumbered on }
+    ensures rises { IfOk result (λ next. end ≤ next.at) }
+    ensures lines { IfOk result (λ next. (name : List ℕ) (lexeme : Lexeme) → IsLexeme bytes.now at end lexeme
+        → IsMapped name bytes.now map.old on at → IsMapped name bytes.now map.new next.on next.at) }
+    ensures feed { IfOk result (λ next. (lexeme : Lexeme) → IsLexeme bytes.now at end lexeme
+        → IsAtOrAfterFeed bytes.now end next.at) }
+{
+    match marked_line(bytes, at, end) {
+        Some(marked) => {
+            let on = Line {
+                start: (end + 1) as u32,
+                number: marked.number,
+                name: map.names.len(),
+            };
+            push_name(alloc, &mut map.names, marked.name)?;
+            push_line(&mut map.lines, on)?;
+            Ok(Passed { on, at: end + 1 })
+        }
+        None => {
+            let on = push_lines(&mut map.lines, on, bytes, at, end)?;
+            Ok(Passed { on, at: end })
+        }
+    }
+}
+
+/// Whether a lexeme that begins with this byte may hold a line feed or be a marker.
+fn may_end_line(byte: u8) -> bool
+    ensures { result ≡ scan.may_end_line byte }
+{
+    matches!(byte, b'\n' | b'/' | b'#')
+}
+
+/// Passes a lexeme that takes the bytes from `at` to `end`, and the line feed after it where it is a
+/// marker: adds the lines that begin there, and the marker's name. `on` is the line of the lexeme's
+/// first byte.
+#[inline(always)]
+pub(crate) fn pass(
+    alloc: Global,
+    map: &mut PlaceMap,
+    on: Line,
+    bytes: &[u8],
+    at: usize,
+    end: usize,
+) -> Result<Passed, OutOfMemory>
+    requires small { length bytes.now ≤ most_bytes }
+    requires rises { at < end }
+    requires within { end ≤ length bytes.now }
+    requires begun { on.start ≤ at }
+    requires numbered { IsNumbered on }
+    ensures rises { IfOk result (λ next. end ≤ next.at) }
+    ensures lines { IfOk result (λ next. (name : List ℕ) (lexeme : Lexeme) → IsLexeme bytes.now at end lexeme
+        → IsMapped name bytes.now map.old on at → IsMapped name bytes.now map.new next.on next.at) }
+    ensures feed { IfOk result (λ next. (lexeme : Lexeme) → IsLexeme bytes.now at end lexeme
+        → IsAtOrAfterFeed bytes.now end next.at) }
+{
+    if may_end_line(bytes[at]) {
+        pass_line_ends(alloc, map, on, bytes, at, end)
+    } else {
+        Ok(Passed { on, at: end })
+    }
+}
+
+/// The places of a file's bytes, of which there are at most 1,048,576, in time that grows with them
+/// (docs/TOKENS.md, "Places").
+///
+/// `name` is the file's own name, which holds until a line marker comes. Faults are passed over like
+/// any lexeme of the file. Nothing is refused, but for want of memory.
+pub fn place_map(alloc: Global, name: &str, bytes: &[u8]) -> Result<PlaceMap, OutOfMemory>
+    requires { length bytes.now ≤ most_bytes }
+    ensures { IfOk result (IsPlaceMapOf name.now bytes.now) }
+{
+    let mut map = empty_map(alloc, name)?;
     let mut on = FIRST;
     let mut at = 0;
     while at < bytes.len() {
-        let end = at + piece_at(bytes, at).size;
-        match marked_line(bytes, at, end) {
-            Some(marked) => {
-                on = Line {
-                    start: (end + 1) as u32,
-                    number: marked.number,
-                    name: names.len(),
-                };
-                push_name(alloc, &mut names, marked.name)?;
-                push_line(&mut lines, on)?;
-                at = end + 1;
-            }
-            None => {
-                on = push_lines(&mut lines, on, bytes, at, end)?;
-                at = end;
-            }
-        }
+        let end = at + lexeme_at(bytes, at).size;
+        let next = pass(alloc, &mut map, on, bytes, at, end)?;
+        on = next.on;
+        at = next.at;
     }
-    Ok(PlaceMap { names, lines })
+    Ok(map)
 }
 
 /// The last line that starts at an offset or before it.
@@ -163,9 +246,11 @@ fn name_at(names: &[Vec<u8>], index: usize) -> &[u8]
 /// The name, line and column of the byte at an offset, or of the file's end, by a binary search among
 /// the file's lines (docs/TOKENS.md, "Places").
 ///
-/// An offset behind the file's end has the place that its last line would give it.
+/// At the file's end the offset is the file's length. A greater one has the place that the last line would
+/// give it.
 pub fn place(map: &PlaceMap, offset: u32) -> PlaceName<'_>
-    ensures { (name bytes : List ℕ) → IsPlaceMapOf name bytes map.now → offset ≤ length bytes → IsPlace name bytes offset (place_of result) }
+    ensures { (name bytes : List ℕ) → IsPlaceMapOf name bytes map.now → offset ≤ length bytes
+        → IsPlace name bytes offset (place_of result) }
 {
     let line = last_before(&map.lines, offset);
     PlaceName {

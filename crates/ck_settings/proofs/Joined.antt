@@ -12,13 +12,13 @@ use Rattle.ck_base.specs.declared.ops.Op.{Op}
 use Rattle.ck_base.specs.declared.ops.Op.TheVariants.{Neutral}
 use Rattle.ck_base.specs.declared.settings_faults.SettingsKind.{SettingsKind}
 use Rattle.ck_base.specs.declared.settings_faults.SettingsKind.TheVariants.{NotToml, Missing, WrongType, OutOfRange, Repeated}
-use Rattle.ck_settings.specs.Keys.{From, FromKernel, Number, Text, OutsideName, ClassWord, WakesOfClass, Needed, Optional, row, ListRow, vector_list, callback_list, function_list, document_rows}
+use Rattle.ck_settings.specs.Keys.{From, FromKernel, Number, Text, OutsideName, ClassWord, WakesOfClass, Needed, Optional, row, has_locked, locked_row, ListRow, vector_list, callback_list, function_list, document_rows}
 use Rattle.ck_settings.specs.Classes.{op_of}
-use Rattle.ck_settings.specs.Values.{natural, number_in, text_in, truth_in, data_of, elements_in, number_at, text_at, elements_at, members_in, vector_of, callback_of, function_of, kernel_priority_of, values_of}
+use Rattle.ck_settings.specs.Values.{natural, number_in, text_in, truth_in, data_of, elements_in, number_at, text_at, elements_at, members_in, vector_of, callback_of, function_of, version_of, kernel_priority_of, values_of}
 use Rattle.ck_settings.specs.Faults.{KeyFault, unless, at_most_one, judged, is_within, is_some_text, is_outside_name, is_class, row_faults, rows_faults, unknown_faults, element_key, element_prefix, says_the_same, repetition_faults, table_faults, element_faults, elements_faults, list_type_faults, room_faults, list_faults, key_of, faults_of}
 use Rattle.ck_settings.specs.Documents.{unless_faulty, not_toml, settings_of, read_members}
 use Rattle.ck_settings.specs.Reading as reading
-use Rattle.ck_settings.specs.Reading.{◌>>=◌, or_fault, require, number_read, number_found, truth_found, list_found, text_where, op_read, element, elements, fields_of, has_function, has_member, has_name, only, toml, file, document}
+use Rattle.ck_settings.specs.Reading.{◌>>=◌, or_fault, require, locked_read, number_read, number_found, truth_found, list_found, text_where, op_read, element, elements, fields_of, has_function, has_member, has_name, only, toml, file, document}
 use Rattle.ck_settings.proofs.Repeated.{list_any_map}
 
 -- ---- one after another
@@ -157,6 +157,9 @@ two_rows a b c = sym (append_assoc a (b ++ []) c ∙ ap (λ t. a ++ t) (append_a
 three_rows : (a b c d : List KeyFault) → a ++ (b ++ (c ++ d)) ≡ (a ++ (b ++ (c ++ []))) ++ d
 three_rows a b c d = ap (λ t. a ++ t) (two_rows b c d) ∙ sym (append_assoc a (b ++ (c ++ [])) d)
 
+rows_first : (a b c d e : List KeyFault) → a ++ (b ++ (c ++ (d ++ e))) ≡ (a ++ (b ++ (c ++ d))) ++ e
+rows_first a b c d e = sym (append_assoc a (b ++ (c ++ d)) e ∙ ap (λ t. a ++ t) (append_assoc b (c ++ d) e ∙ ap (λ t. b ++ t) (append_assoc c d e)))
+
 abbrev repeated : List ℕ → ListRow → List Data → Members → List KeyFault
 repeated prefix list before ms = repetition_faults prefix list.same before ms
 
@@ -174,22 +177,40 @@ vector_is kernel prefix before ms =
     (λ _. once (prefix ++ codes "function") (has_function (text_at (codes "function") ms)) (λ d. vector_of (members_in d)) vector_list.same before ms (vector_of ms) (λ e. and_true _)))
     ∙ ap (λ fs. unless_faulty fs (vector_of ms)) (two_rows function priority again))
 
-callback_is : (kernel : ℕ) (prefix : List ℕ) (before : List Data) (ms : Members)
-    → reading.callback kernel prefix (map (λ d. callback_of (members_in d)) before) ms
-    ≡ unless_faulty (unknown_faults prefix (fields_of callback_list) ms ++ (rows_faults prefix kernel callback_list.fields ms ++ repeated prefix callback_list before ms)) (callback_of ms)
+truth_is : (key : List ℕ) (o : Option Data)
+    → truth_found key o ≡ unless_faulty (at_most_one key (option_map_or (λ d. judged (as_bool d) (λ _. true)) o None) ++ []) (option_map_or truth_in o false)
+truth_is key None = refl
+truth_is key (Some d) = typed_truth key (as_bool d) where
+  typed_truth : (key : List ℕ) (o : Option Bool)
+      → or_fault key WrongType o ≡ unless_faulty (at_most_one key (judged o (λ _. true)) ++ []) (option_map_or (λ b. b) o false)
+  typed_truth key None = refl
+  typed_truth key (Some b) = refl
+
+locked_is : (locked : Bool) (prefix : List ℕ) (kernel : ℕ) (ms : Members)
+    → locked_read locked prefix ms ≡ unless_faulty (rows_faults prefix kernel (locked_row locked) ms) (callback_of locked ms).locked
+locked_is true prefix kernel ms = truth_is (prefix ++ codes "locked") (get_member (codes "locked") ms)
+locked_is false prefix kernel ms = refl
+
+callback_is : (locked : Bool) (kernel : ℕ) (prefix : List ℕ) (before : List Data) (ms : Members)
+    → reading.callback locked kernel prefix (map (λ d. callback_of locked (members_in d)) before) ms
+    ≡ unless_faulty (unknown_faults prefix (fields_of (callback_list locked)) ms ++ (rows_faults prefix kernel (callback_list locked).fields ms ++ repeated prefix (callback_list locked) before ms)) (callback_of locked ms)
 unfolding reading.callback
-callback_is kernel prefix before ms =
+callback_is locked kernel prefix before ms =
     let of_struct = row_faults prefix kernel (row (codes "struct") Needed Text) ms in
     let member = row_faults prefix kernel (row (codes "member") Needed Text) ms in
     let priority = row_faults prefix kernel (row (codes "priority") Needed (Number FromKernel 255)) ms in
-    let again = repeated prefix callback_list before ms in
-    step (only prefix (fields_of callback_list) ms) (unknown_faults prefix (fields_of callback_list) ms) (rows_faults prefix kernel callback_list.fields ms ++ again) (tt {0}) (callback_of ms) _ refl
-    (λ _. step (text_where is_some_text prefix (codes "struct") ms) of_struct (member ++ (priority ++ again)) (text_at (codes "struct") ms) (callback_of ms) _ (text_is is_some_text prefix (codes "struct") ms)
-    (λ _. step (text_where is_some_text prefix (codes "member") ms) member (priority ++ again) (text_at (codes "member") ms) (callback_of ms) _ (text_is is_some_text prefix (codes "member") ms)
-    (λ _. step (reading.number prefix kernel 255 (codes "priority") ms) priority again (number_at 0 (codes "priority") ms) (callback_of ms) _ (number_is prefix kernel 255 (codes "priority") ms)
-    (λ _. once (prefix ++ codes "member") (has_member (text_at (codes "struct") ms) (text_at (codes "member") ms)) (λ d. callback_of (members_in d)) callback_list.same before ms (callback_of ms)
-    (λ e. two_and_true _ _))))
-    ∙ ap (λ fs. unless_faulty fs (callback_of ms)) (three_rows of_struct member priority again))
+    let rest = rows_faults prefix kernel (locked_row locked) ms in
+    let list = callback_list locked in
+    let again = repeated prefix list before ms in
+    let value = callback_of locked ms in
+    step (only prefix (fields_of list) ms) (unknown_faults prefix (fields_of list) ms) (rows_faults prefix kernel list.fields ms ++ again) (tt {0}) value _ refl
+    (λ _. step (text_where is_some_text prefix (codes "struct") ms) of_struct (member ++ (priority ++ (rest ++ again))) (text_at (codes "struct") ms) value _ (text_is is_some_text prefix (codes "struct") ms)
+    (λ _. step (text_where is_some_text prefix (codes "member") ms) member (priority ++ (rest ++ again)) (text_at (codes "member") ms) value _ (text_is is_some_text prefix (codes "member") ms)
+    (λ _. step (reading.number prefix kernel 255 (codes "priority") ms) priority (rest ++ again) (number_at 0 (codes "priority") ms) value _ (number_is prefix kernel 255 (codes "priority") ms)
+    (λ _. step (locked_read locked prefix ms) rest again value.locked value _ (locked_is locked prefix kernel ms)
+    (λ _. once (prefix ++ codes "member") (has_member (text_at (codes "struct") ms) (text_at (codes "member") ms)) (λ d. callback_of locked (members_in d)) list.same before ms value
+    (λ e. two_and_true _ _)))))
+    ∙ ap (λ fs. unless_faulty fs value) (rows_first of_struct member priority rest again))
 
 function_is : (kernel : ℕ) (prefix : List ℕ) (before : List Data) (ms : Members)
     → reading.function prefix (map (λ d. function_of (members_in d)) before) ms
@@ -256,19 +277,22 @@ vectors_are kernel ms =
     (list_is (codes "vector") (get_member (codes "vector") ms))
     (λ _. elements_are kernel vector_list vector_of reading.vector [] ds (λ before ms'. vector_is kernel (element_prefix (codes "vector") (length before + 1)) before ms'))
 
-callbacks_are : (kernel : ℕ) (ms : Members) → reading.callbacks kernel (length (values_of ms).vectors) ms ≡ unless_faulty (list_faults kernel callback_list ms) (values_of ms).callbacks
+callbacks_are : (kernel : ℕ) (ms : Members)
+    → reading.callbacks (has_locked (version_of ms)) kernel (length (values_of ms).vectors) ms ≡ unless_faulty (list_faults kernel (callback_list (has_locked (version_of ms))) ms) (values_of ms).callbacks
 unfolding reading.callbacks
 callbacks_are kernel ms =
+    let locked = has_locked (version_of ms) in
+    let list = callback_list locked in
     let key = codes "callback" in
     let vs = elements_at (codes "vector") ms in
     let ds = elements_at key ms in
     let types = list_type_faults key (get_member key ms) in
-    let room = room_faults key callback_list.room ms in
-    let rest = elements_faults kernel callback_list [] ds in
+    let room = room_faults key list.room ms in
+    let rest = elements_faults kernel list [] ds in
     rw (length-map vs (λ d. vector_of (members_in d)))
     (step (reading.list [] key ms) types (room ++ rest) ds (values_of ms).callbacks _ (list_is key (get_member key ms))
     (λ _. step (require key OutOfRange (nat_le (length vs + length ds) 240) (tt {0})) room rest (tt {0}) (values_of ms).callbacks _ (required key OutOfRange (nat_le (length vs + length ds) 240) (tt {0}))
-    (λ _. elements_are kernel callback_list callback_of (reading.callback kernel) [] ds (λ before ms'. callback_is kernel (element_prefix key (length before + 1)) before ms'))))
+    (λ _. elements_are kernel list (callback_of locked) (reading.callback locked kernel) [] ds (λ before ms'. callback_is locked kernel (element_prefix key (length before + 1)) before ms'))))
 
 functions_are : (kernel : ℕ) (ms : Members) → reading.functions ms ≡ unless_faulty (list_faults kernel function_list ms) (values_of ms).functions
 unfolding reading.functions
@@ -284,20 +308,21 @@ document_is : (ms : Members) → document ms ≡ unless_faulty (faults_of ms) (v
 unfolding document
 document_is ms =
     let kernel = kernel_priority_of ms in
-    let version = row_faults [] kernel (row (codes "version") Needed (Number (From 1) 1)) ms in
+    let version = row_faults [] kernel (row (codes "version") Needed (Number (From 1) 2)) ms in
     let kernel_priority = row_faults [] kernel (row (codes "kernel_priority") Needed (Number (From 0) 255)) ms in
     let timer_priority = row_faults [] kernel (row (codes "timer_priority") Optional (Number FromKernel 255)) ms in
     let vectors = list_faults kernel vector_list ms in
-    let callbacks = list_faults kernel callback_list ms in
+    let rows = document_rows (version_of ms) in
+    let callbacks = list_faults kernel (callback_list (has_locked (version_of ms))) ms in
     let functions = list_faults kernel function_list ms ++ [] in
     let values = values_of ms in
-    step (only [] (map key_of document_rows) ms) (unknown_faults [] (map key_of document_rows) ms) (version ++ (kernel_priority ++ (timer_priority ++ (vectors ++ (callbacks ++ functions))))) (tt {0}) values _ refl
-    (λ _. step (reading.number [] 1 1 (codes "version") ms) version (kernel_priority ++ (timer_priority ++ (vectors ++ (callbacks ++ functions)))) values.version values _ (number_is [] 1 1 (codes "version") ms)
+    step (only [] (map key_of rows) ms) (unknown_faults [] (map key_of rows) ms) (version ++ (kernel_priority ++ (timer_priority ++ (vectors ++ (callbacks ++ functions))))) (tt {0}) values _ refl
+    (λ _. step (reading.number [] 1 2 (codes "version") ms) version (kernel_priority ++ (timer_priority ++ (vectors ++ (callbacks ++ functions)))) values.version values _ (number_is [] 1 2 (codes "version") ms)
     (λ _. step (reading.number [] 0 255 (codes "kernel_priority") ms) kernel_priority (timer_priority ++ (vectors ++ (callbacks ++ functions))) kernel values _ (number_is [] 0 255 (codes "kernel_priority") ms)
     (λ _. step (reading.number_or [] kernel 255 kernel (codes "timer_priority") ms) timer_priority (vectors ++ (callbacks ++ functions)) values.timer_priority values _
     (number_found_is (codes "timer_priority") kernel 255 kernel (get_member (codes "timer_priority") ms))
     (λ _. step (reading.vectors ms) vectors (callbacks ++ functions) values.vectors values _ (vectors_are kernel ms)
-    (λ _. step (reading.callbacks kernel (length values.vectors) ms) callbacks functions values.callbacks values _ (callbacks_are kernel ms)
+    (λ _. step (reading.callbacks (has_locked values.version) kernel (length values.vectors) ms) callbacks functions values.callbacks values _ (callbacks_are kernel ms)
     (λ _. step (reading.functions ms) (list_faults kernel function_list ms) [] values.functions values _ (functions_are kernel ms) (λ _. refl)))))))
 
 members_read : (o : Option Members) → (or_fault (codes "rtcheck.toml") NotToml o >>= document) ≡ read_members o

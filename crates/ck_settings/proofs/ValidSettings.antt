@@ -1,5 +1,5 @@
 -- Settings of a document without a fault are valid.
-use Rattle.std.proofs.Common.{◌≡◌, ℕ, ◌+◌, ◌≤◌, ℤ, pos, negsuc, Bool, true, false, not, cond, List, [], ◌∷◌, ◌++◌, codes, length, map, Option, Some, None, Result, Ok, Err, refl, subst, ◌∙◌, arith}
+use Rattle.std.proofs.Common.{◌≡◌, ℕ, zero, suc, ◌+◌, ◌≤◌, ◌⊎◌, inl, inr, ◌&&◌, ℤ, pos, negsuc, Bool, true, false, not, cond, List, [], ◌∷◌, ◌++◌, codes, length, map, Option, Some, None, Result, Ok, Err, refl, subst, ◌∙◌, arith}
 use Rattle.std.specs.Prelude.{nat_le, IfOk}
 use Rattle.std.proofs.lemmas.Bool.{and_parts, false≢true, leb-true}
 use Rattle.std.proofs.lemmas.List.{length-map, map_push}
@@ -14,12 +14,12 @@ use Rattle.ck_base.specs.declared.settings_faults.SettingsKind.{SettingsKind}
 use Rattle.ck_base.specs.declared.settings_faults.SettingsKind.TheVariants.{Missing, OutOfRange}
 use Rattle.ck_settings.specs.declared.errors.ReadSettingsError.{ReadSettingsError}
 use Rattle.ck_settings.specs.declared.settings.Settings.{Settings}
-use Rattle.ck_settings.specs.Keys.{From, FromKernel, Number, Text, OutsideName, Needed, Optional, row, ListRow, vector_list, callback_list, function_list, document_rows}
+use Rattle.ck_settings.specs.Keys.{From, FromKernel, Number, Text, OutsideName, Needed, Optional, row, has_locked, ListRow, vector_list, callback_list, function_list, document_rows}
 use Rattle.ck_settings.specs.Classes.{op_of}
-use Rattle.ck_settings.specs.Values.{Values, natural, number_in, text_at, truth_at, elements_at, members_in, vector_of, callback_of, function_of, kernel_priority_of, values_of, settings_view}
+use Rattle.ck_settings.specs.Values.{Values, natural, number_in, text_at, truth_at, elements_at, members_in, vector_of, callback_of, function_of, version_of, kernel_priority_of, values_of, settings_view}
 use Rattle.ck_settings.specs.Faults.{KeyFault, unless, at_most_one, judged, is_within, is_some_text, is_outside_name, row_faults, rows_faults, unknown_faults, element_prefix, says_the_same, repetition_faults, table_faults, element_faults, elements_faults, list_type_faults, room_faults, list_faults, key_of, document_rows_faults, faults_of}
 use Rattle.ck_settings.specs.Documents.{Gives, unless_faulty, not_toml, read_members, settings_of}
-use Rattle.ck_settings.specs.Valid.{is_outside_op, IsCallback, IsFunction, same_vector, same_callback, same_function, AllNew, AreValid}
+use Rattle.ck_settings.specs.Valid.{is_outside_op, IsVector, IsCallback, IsFunction, same_vector, same_callback, same_function, AllNew, AreValid}
 use Rattle.ck_settings.proofs.Joined.{passed, passed_test, and_true, two_and_true, repeats}
 
 -- ---- where there is no fault
@@ -52,10 +52,10 @@ number_there : (key : List ℕ) (least most : ℕ) (o : Option Data) → at_most
 number_there key least most None h = absurd cc
 number_there key least most (Some d) h = number_typed key least most (as_integer d) h
 
-number_or_default : (key : List ℕ) (least most : ℕ) (o : Option Data) → at_most_one key (option_map_or (λ d. judged (as_integer d) (is_within least most)) o None) ≡ []
-    → least ≤ option_map_or number_in o least
-number_or_default key least most None h = omega arith
-number_or_default key least most (Some d) h = (number_typed key least most (as_integer d) h).0
+number_or_default : (key : List ℕ) (least most : ℕ) (o : Option Data) → least ≤ most → at_most_one key (option_map_or (λ d. judged (as_integer d) (is_within least most)) o None) ≡ []
+    → (least ≤ option_map_or number_in o least) × (option_map_or number_in o least ≤ most)
+number_or_default key least most None some h = (omega arith, some)
+number_or_default key least most (Some d) some h = number_typed key least most (as_integer d) h
 
 -- ---- the op of a class
 
@@ -120,35 +120,43 @@ module _ {X : Type 0} (kernel : ℕ) (list : ListRow) (value : Members → X) wh
       let (_, rest) = none_in (list_type_faults list.key (get_member list.key ms)) (room_faults list.key list.room ms ++ elements_faults kernel list [] (elements_at list.key ms)) e in
       none_in (room_faults list.key list.room ms) (elements_faults kernel list [] (elements_at list.key ms)) rest
 
-vector_clean : (kernel : ℕ) → Clean kernel vector_list vector_of (λ _ x. is_some_text x.function ≡ true)
+vector_clean : (kernel : ℕ) → Clean kernel vector_list vector_of (λ _. IsVector)
 vector_clean kernel before ms e =
     let prefix = element_prefix (codes "vector") (length before + 1) in
     let (rows, _) = parts kernel vector_list vector_of before ms e in
-    let (function, _) = none_in (row_faults prefix kernel (row (codes "function") Needed Text) ms) _ rows in
-    passed (prefix ++ codes "function") is_some_text (get_member (codes "function") ms) function
+    let (function, rest) = none_in (row_faults prefix kernel (row (codes "function") Needed Text) ms) _ rows in
+    let (priority, _) = none_in (row_faults prefix kernel (row (codes "priority") Needed (Number (From 0) 255)) ms) _ rest in
+    record {
+      function = passed (prefix ++ codes "function") is_some_text (get_member (codes "function") ms) function;
+      priority = (number_there (prefix ++ codes "priority") 0 255 (get_member (codes "priority") ms) priority).1;
+    }
 
 vector_new : (kernel : ℕ) → Clean kernel vector_list vector_of (New kernel vector_list vector_of same_vector)
 vector_new kernel before ms e =
     let (_, again) = parts kernel vector_list vector_of before ms e in
     repeats (same_vector (vector_of ms)) (λ d. vector_of (members_in d)) vector_list.same before ms (λ e. and_true _) ∙ again
 
-callback_clean : (kernel : ℕ) → Clean kernel callback_list callback_of (λ _. IsCallback kernel)
-callback_clean kernel before ms e =
+not_locked : (version : ℕ) (b : Bool) → version ≡ 1 → (has_locked version && b) ≡ false
+not_locked version b e = rw e refl
+
+callback_clean : (version kernel : ℕ) → Clean kernel (callback_list (has_locked version)) (callback_of (has_locked version)) (λ _. IsCallback version kernel)
+callback_clean version kernel before ms e =
     let prefix = element_prefix (codes "callback") (length before + 1) in
-    let (rows, _) = parts kernel callback_list callback_of before ms e in
+    let (rows, _) = parts kernel (callback_list (has_locked version)) (callback_of (has_locked version)) before ms e in
     let (of_struct, more) = none_in (row_faults prefix kernel (row (codes "struct") Needed Text) ms) _ rows in
     let (member, rest) = none_in (row_faults prefix kernel (row (codes "member") Needed Text) ms) _ more in
     let (priority, _) = none_in (row_faults prefix kernel (row (codes "priority") Needed (Number FromKernel 255)) ms) _ rest in
     record {
       of_struct = passed (prefix ++ codes "struct") is_some_text (get_member (codes "struct") ms) of_struct;
       member = passed (prefix ++ codes "member") is_some_text (get_member (codes "member") ms) member;
-      priority = (number_there (prefix ++ codes "priority") kernel 255 (get_member (codes "priority") ms) priority).0;
+      priority = number_there (prefix ++ codes "priority") kernel 255 (get_member (codes "priority") ms) priority;
+      locked = not_locked version _;
     }
 
-callback_new : (kernel : ℕ) → Clean kernel callback_list callback_of (New kernel callback_list callback_of same_callback)
-callback_new kernel before ms e =
-    let (_, again) = parts kernel callback_list callback_of before ms e in
-    repeats (same_callback (callback_of ms)) (λ d. callback_of (members_in d)) callback_list.same before ms (λ e. two_and_true _ _) ∙ again
+callback_new : (locked : Bool) (kernel : ℕ) → Clean kernel (callback_list locked) (callback_of locked) (New kernel (callback_list locked) (callback_of locked) same_callback)
+callback_new locked kernel before ms e =
+    let (_, again) = parts kernel (callback_list locked) (callback_of locked) before ms e in
+    repeats (same_callback (callback_of locked ms)) (λ d. callback_of locked (members_in d)) (callback_list locked).same before ms (λ e. two_and_true _ _) ∙ again
 
 function_clean : (kernel : ℕ) → Clean kernel function_list function_of (λ _. IsFunction)
 function_clean kernel before ms e =
@@ -167,32 +175,41 @@ function_new kernel before ms e =
 
 -- ---- the document
 
+one_or_two : (n : ℕ) → 1 ≤ n → n ≤ 2 → (n ≡ 1) ⊎ (n ≡ 2)
+one_or_two zero low high = absurd (omega arith)
+one_or_two (suc zero) low high = inl refl
+one_or_two (suc (suc n)) low high = inr (omega arith)
+
 document_valid : (ms : Members) → faults_of ms ≡ [] → AreValid (values_of ms)
 document_valid ms e =
     let kernel = kernel_priority_of ms in
-    let (_, rows) = none_in (unknown_faults [] (map key_of document_rows) ms) (document_rows_faults kernel document_rows ms) e in
-    let (version, after_version) = none_in (row_faults [] kernel (row (codes "version") Needed (Number (From 1) 1)) ms) _ rows in
-    let (_, after_kernel) = none_in (row_faults [] kernel (row (codes "kernel_priority") Needed (Number (From 0) 255)) ms) _ after_version in
+    let locked = has_locked (version_of ms) in
+    let keys = document_rows (version_of ms) in
+    let (_, rows) = none_in (unknown_faults [] (map key_of keys) ms) (document_rows_faults kernel keys ms) e in
+    let (version, after_version) = none_in (row_faults [] kernel (row (codes "version") Needed (Number (From 1) 2)) ms) _ rows in
+    let (kernel_there, after_kernel) = none_in (row_faults [] kernel (row (codes "kernel_priority") Needed (Number (From 0) 255)) ms) _ after_version in
     let (timer, after_timer) = none_in (row_faults [] kernel (row (codes "timer_priority") Optional (Number FromKernel 255)) ms) _ after_kernel in
     let (vectors, after_vectors) = none_in (list_faults kernel vector_list ms) _ after_timer in
-    let (callbacks, after_callbacks) = none_in (list_faults kernel callback_list ms) _ after_vectors in
+    let (callbacks, after_callbacks) = none_in (list_faults kernel (callback_list locked) ms) _ after_vectors in
     let (functions, _) = none_in (list_faults kernel function_list ms) [] after_callbacks in
     let (_, each_vector) = listed kernel vector_list vector_of ms vectors in
-    let (room, each_callback) = listed kernel callback_list callback_of ms callbacks in
+    let (room, each_callback) = listed kernel (callback_list locked) (callback_of locked) ms callbacks in
     let (_, each_function) = listed kernel function_list function_of ms functions in
     let vs = elements_at (codes "vector") ms in
     let cs = elements_at (codes "callback") ms in
-    let one = number_there (codes "version") 1 1 (get_member (codes "version") ms) version in
+    let known = number_there (codes "version") 1 2 (get_member (codes "version") ms) version in
+    let least = number_there (codes "kernel_priority") 0 255 (get_member (codes "kernel_priority") ms) kernel_there in
     let count : length vs + length cs ≤ 240 = leb-true _ _ (held (codes "callback") OutOfRange (nat_le (length vs + length cs) 240) room) in
     record {
-      version = omega (arith, one.0, one.1);
-      timer = number_or_default (codes "timer_priority") kernel 255 (get_member (codes "timer_priority") ms) timer;
-      handlers = rw (length-map vs (λ d. vector_of (members_in d)), length-map cs (λ d. callback_of (members_in d))) count;
-      vectors = all_clean kernel vector_list vector_of (λ x. is_some_text x.function ≡ true) (vector_clean kernel) [] vs each_vector;
-      callbacks = all_clean kernel callback_list callback_of (IsCallback kernel) (callback_clean kernel) [] cs each_callback;
+      version = one_or_two (version_of ms) known.0 known.1;
+      kernel = least.1;
+      timer = number_or_default (codes "timer_priority") kernel 255 (get_member (codes "timer_priority") ms) least.1 timer;
+      handlers = rw (length-map vs (λ d. vector_of (members_in d)), length-map cs (λ d. callback_of locked (members_in d))) count;
+      vectors = all_clean kernel vector_list vector_of IsVector (vector_clean kernel) [] vs each_vector;
+      callbacks = all_clean kernel (callback_list locked) (callback_of locked) (IsCallback (version_of ms) kernel) (callback_clean (version_of ms) kernel) [] cs each_callback;
       functions = all_clean kernel function_list function_of IsFunction (function_clean kernel) [] (elements_at (codes "function") ms) each_function;
       vectors_differ = all_new kernel vector_list vector_of same_vector (vector_new kernel) [] vs each_vector;
-      callbacks_differ = all_new kernel callback_list callback_of same_callback (callback_new kernel) [] cs each_callback;
+      callbacks_differ = all_new kernel (callback_list locked) (callback_of locked) same_callback (callback_new locked kernel) [] cs each_callback;
       functions_differ = all_new kernel function_list function_of same_function (function_new kernel) [] (elements_at (codes "function") ms) each_function;
     }
 

@@ -1,5 +1,5 @@
 -- Documents worked on the definitions alone.
-use Rattle.std.proofs.Common.{◌≡◌, [], ◌∷◌, ◌++◌, codes, Ok, Err, refl}
+use Rattle.std.proofs.Common.{◌≡◌, [], ◌∷◌, ◌++◌, codes, true, Ok, Err, refl}
 use Rattle.toml.specs.Parse.{parse_document}
 use Rattle.toml.proofs.OnLiterals.{toml_on_literals}
 use Rattle.ck_base.specs.declared.ops.Op.TheVariants.{IWakes}
@@ -11,9 +11,30 @@ one : read_members (parse_document (codes "version = 1")) ≡ Err (record { key 
 unfolding toml_on_literals
 one = refl
 
-two : read_members (parse_document (codes "version = 2")) ≡ Err (record { key = codes "version"; kind = OutOfRange })
+two : read_members (parse_document (codes "version = 2")) ≡ Err (record { key = codes "kernel_priority"; kind = Missing })
 unfolding toml_on_literals
 two = refl
+
+three : read_members (parse_document (codes "version = 3")) ≡ Err (record { key = codes "version"; kind = OutOfRange })
+unfolding toml_on_literals
+three = refl
+
+locked_in_1 : read_members (parse_document (codes "version = 1\nkernel_priority = 2\ncallback = [{struct = \"s\", member = \"m\", priority = 5, locked = true}]\n"))
+    ≡ Err (record { key = element_prefix (codes "callback") 1 ++ codes "locked"; kind = Unknown })
+unfolding toml_on_literals
+locked_in_1 = refl
+
+locked_in_2 : read_members (parse_document (codes "version = 2\nkernel_priority = 2\ncallback = [{struct = \"s\", member = \"m\", priority = 5, locked = true}]\n"))
+    ≡ Ok (record {
+      version = 2;
+      kernel_priority = 2;
+      timer_priority = 2;
+      vectors = [];
+      callbacks = record { of_struct = codes "s"; member = codes "m"; priority = 5; locked = true } ∷ [];
+      functions = [];
+    })
+unfolding toml_on_literals
+locked_in_2 = refl
 
 least : read_members (parse_document (codes "version = 1\nkernel_priority = 2\n")) ≡ Ok (record { version = 1; kernel_priority = 2; timer_priority = 2; vectors = []; callbacks = []; functions = [] })
 unfolding toml_on_literals

@@ -12,9 +12,9 @@ use Rattle.ck_base.specs.KernelNames.{kernel_name}
 use Rattle.ck_base.specs.declared.settings_faults.SettingsFault.{SettingsFault}
 use Rattle.ck_base.specs.declared.settings_faults.SettingsKind.{SettingsKind}
 use Rattle.ck_base.specs.declared.settings_faults.SettingsKind.TheVariants.{Missing, Unknown, WrongType, OutOfRange, Repeated}
-use Rattle.ck_settings.specs.Keys.{Least, From, FromKernel, Form, Number, Text, OutsideName, ClassWord, WakesOfClass, Need, Needed, Optional, Row, Room, AnyNumber, Together, ListRow, DocumentRow, Single, Tables, document_rows}
+use Rattle.ck_settings.specs.Keys.{Least, From, FromKernel, Form, Number, Truth, Text, OutsideName, ClassWord, WakesOfClass, Need, Needed, Optional, Row, Room, AnyNumber, Together, ListRow, DocumentRow, Single, Tables, document_rows}
 use Rattle.ck_settings.specs.Classes.{op_of}
-use Rattle.ck_settings.specs.Values.{kernel_priority_of, text_at, elements_at, members_in}
+use Rattle.ck_settings.specs.Values.{version_of, kernel_priority_of, text_at, elements_at, members_in}
 
 -- a fault, without where it lies in memory
 pub record KeyFault : Type 0 where
@@ -59,6 +59,7 @@ is_class word = is_some (op_of word false)
 -- what is wrong with a value, in a document of this kernel_priority and beside these members
 abbrev pub value_fault : ℕ → Members → Form → Data → Option SettingsKind
 value_fault kernel ms (Number least most) d = judged (as_integer d) (is_within (least_of kernel least) most)
+value_fault kernel ms Truth d = judged (as_bool d) (λ _. true)
 value_fault kernel ms Text d = judged (as_str d) is_some_text
 value_fault kernel ms OutsideName d = judged (as_str d) is_outside_name
 value_fault kernel ms ClassWord d = judged (as_str d) is_class
@@ -181,5 +182,5 @@ key_of (Tables list) = list.key
 -- all faults, the first one first
 abbrev pub faults_of : Members → List KeyFault
 faults_of ms =
-    unknown_faults [] (map key_of document_rows) ms
-    ++ document_rows_faults (kernel_priority_of ms) document_rows ms
+    let rows = document_rows (version_of ms) in
+    unknown_faults [] (map key_of rows) ms ++ document_rows_faults (kernel_priority_of ms) rows ms

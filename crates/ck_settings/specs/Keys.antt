@@ -1,6 +1,6 @@
 -- The table of keys: each key of rtcheck.toml, what its value has to be, and whether it is needed. The order of the rows is
 -- the order in which faults are told. docs/SETTINGS.md, "The keys", has the same rows.
-use Rattle.std.specs.Prelude.{ℕ, List, [], ◌∷◌, codes}
+use Rattle.std.specs.Prelude.{ℕ, ◌==◌, Bool, true, false, List, [], ◌∷◌, codes}
 
 -- from where on a number may be: from this one, or from the document's kernel_priority
 pub data Least : Type 0 where
@@ -10,6 +10,7 @@ pub data Least : Type 0 where
 -- what a value has to be
 pub data Form : Type 0 where
   Number : Least → ℕ → Form
+  Truth : Form
   Text : Form
   OutsideName : Form
   ClassWord : Form
@@ -56,15 +57,23 @@ vector_list = record {
   same = codes "function" ∷ [];
 }
 
+-- whether the callbacks of a document of this version have the key `locked`
+abbrev pub has_locked : ℕ → Bool
+has_locked version = version == 2
+
+abbrev pub locked_row : Bool → List Row
+locked_row true = row (codes "locked") Optional Truth ∷ []
+locked_row false = []
+
 -- callback: the members that handlers call
-abbrev pub callback_list : ListRow
-callback_list = record {
+abbrev pub callback_list : Bool → ListRow
+callback_list locked = record {
   key = codes "callback";
   room = Together (codes "vector") 240;
   fields =
       row (codes "struct") Needed Text ∷
       row (codes "member") Needed Text ∷
-      row (codes "priority") Needed (Number FromKernel 255) ∷ [];
+      row (codes "priority") Needed (Number FromKernel 255) ∷ locked_row locked;
   same = codes "struct" ∷ codes "member" ∷ [];
 }
 
@@ -80,11 +89,12 @@ function_list = record {
   same = codes "name" ∷ [];
 }
 
-abbrev pub document_rows : List DocumentRow
-document_rows =
-    Single (row (codes "version") Needed (Number (From 1) 1)) ∷
+-- the keys of a document of this version
+abbrev pub document_rows : ℕ → List DocumentRow
+document_rows version =
+    Single (row (codes "version") Needed (Number (From 1) 2)) ∷
     Single (row (codes "kernel_priority") Needed (Number (From 0) 255)) ∷
     Single (row (codes "timer_priority") Optional (Number FromKernel 255)) ∷
     Tables vector_list ∷
-    Tables callback_list ∷
+    Tables (callback_list (has_locked version)) ∷
     Tables function_list ∷ []

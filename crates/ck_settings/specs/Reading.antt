@@ -1,6 +1,6 @@
 -- How a document is read, from its first key on. Private contracts alone speak of it; proofs/Joined.antt joins it with Faults and
 -- Values.
-use Rattle.std.specs.Prelude.{ℕ, ◌+◌, Bool, false, not, ◌&&◌, nat_le, if◌then◌else◌, List, [], ◌∷◌, ◌++◌, codes, length, map, Option, Some, None, Result, Ok, Err}
+use Rattle.std.specs.Prelude.{ℕ, ◌+◌, Bool, true, false, not, ◌&&◌, nat_le, if◌then◌else◌, List, [], ◌∷◌, ◌++◌, codes, length, map, Option, Some, None, Result, Ok, Err}
 use Rattle.std.specs.List.{list_any}
 use Rattle.std.specs.Str.{bytes_eq, is_utf8}
 use Rattle.toml.specs.Data.{Data, Members, get_member, as_str, as_integer, as_bool, as_array, as_table}
@@ -8,7 +8,7 @@ use Rattle.toml.specs.Parse.{parse_document}
 use Rattle.ck_base.specs.declared.ops.Op.{Op}
 use Rattle.ck_base.specs.declared.settings_faults.SettingsKind.{SettingsKind}
 use Rattle.ck_base.specs.declared.settings_faults.SettingsKind.TheVariants.{NotToml, Missing, WrongType, OutOfRange, Repeated}
-use Rattle.ck_settings.specs.Keys.{ListRow, vector_list, callback_list, function_list, document_rows}
+use Rattle.ck_settings.specs.Keys.{ListRow, has_locked, vector_list, callback_list, function_list, document_rows}
 use Rattle.ck_settings.specs.Classes.{op_of}
 use Rattle.ck_settings.specs.Values.{Vector, Callback, Function, Values, natural, data_of}
 use Rattle.ck_settings.specs.Faults.{KeyFault, is_within, is_some_text, is_outside_name, is_class, unknown_faults, element_key, element_prefix, key_of}
@@ -94,13 +94,20 @@ vector prefix before ms = do
   priority ← number prefix 0 255 (codes "priority") ms
   require (prefix ++ codes "function") Repeated (not (list_any (has_function function) before)) (record { function = function; priority = priority })
 
-unfoldable pub callback : ℕ → List ℕ → List Callback → Members → Result Callback KeyFault
-callback kernel prefix before ms = do
-  _ ← only prefix (fields_of callback_list) ms
+-- whether a callback is locked, where callbacks have that key
+abbrev pub locked_read : Bool → List ℕ → Members → Result Bool KeyFault
+locked_read true prefix ms = truth prefix (codes "locked") ms
+locked_read false prefix ms = Ok false
+
+unfoldable pub callback : Bool → ℕ → List ℕ → List Callback → Members → Result Callback KeyFault
+callback has_locked kernel prefix before ms = do
+  _ ← only prefix (fields_of (callback_list has_locked)) ms
   of_struct ← text_where is_some_text prefix (codes "struct") ms
   member ← text_where is_some_text prefix (codes "member") ms
   priority ← number prefix kernel 255 (codes "priority") ms
-  require (prefix ++ codes "member") Repeated (not (list_any (has_member of_struct member) before)) (record { of_struct = of_struct; member = member; priority = priority })
+  locked ← locked_read has_locked prefix ms
+  require (prefix ++ codes "member") Repeated (not (list_any (has_member of_struct member) before))
+      (record { of_struct = of_struct; member = member; priority = priority; locked = locked })
 
 -- the op of a function, by its class and whether it wakes
 unfoldable pub op_read : List ℕ → Members → Result Op KeyFault
@@ -130,8 +137,8 @@ elements step before (d ∷ ds) = step before d >>= λ x. elements step (before 
 abbrev pub vector_elements : List Data → Result (List Vector) KeyFault
 vector_elements = elements (element (codes "vector") vector) []
 
-abbrev pub callback_elements : ℕ → List Data → Result (List Callback) KeyFault
-callback_elements kernel = elements (element (codes "callback") (callback kernel)) []
+abbrev pub callback_elements : Bool → ℕ → List Data → Result (List Callback) KeyFault
+callback_elements has_locked kernel = elements (element (codes "callback") (callback has_locked kernel)) []
 
 abbrev pub function_elements : List Data → Result (List Function) KeyFault
 function_elements = elements (element (codes "function") function) []
@@ -143,11 +150,11 @@ vectors ms = do
   ds ← list [] (codes "vector") ms
   vector_elements ds
 
-unfoldable pub callbacks : ℕ → ℕ → Members → Result (List Callback) KeyFault
-callbacks kernel vectors ms = do
+unfoldable pub callbacks : Bool → ℕ → ℕ → Members → Result (List Callback) KeyFault
+callbacks has_locked kernel vectors ms = do
   ds ← list [] (codes "callback") ms
   _ ← require (codes "callback") OutOfRange (nat_le (vectors + length ds) 240) (tt {0})
-  callback_elements kernel ds
+  callback_elements has_locked kernel ds
 
 unfoldable pub functions : Members → Result (List Function) KeyFault
 functions ms = do
@@ -158,12 +165,12 @@ functions ms = do
 
 unfoldable pub document : Members → Result Values KeyFault
 document ms = do
-  _ ← only [] (map key_of document_rows) ms
-  version ← number [] 1 1 (codes "version") ms
+  _ ← only [] (map key_of (document_rows 1)) ms
+  version ← number [] 1 2 (codes "version") ms
   kernel ← number [] 0 255 (codes "kernel_priority") ms
   timer ← number_or [] kernel 255 kernel (codes "timer_priority") ms
   vs ← vectors ms
-  cs ← callbacks kernel (length vs) ms
+  cs ← callbacks (has_locked version) kernel (length vs) ms
   fs ← functions ms
   Ok (record { version = version; kernel_priority = kernel; timer_priority = timer; vectors = vs; callbacks = cs; functions = fs })
 

@@ -1,5 +1,5 @@
 -- What all settings that are read have in common, for those who use them.
-use Rattle.std.specs.Prelude.{◌≡◌, ℕ, ◌+◌, ◌≤◌, Bool, true, false, ◌&&◌, List, [], ◌∷◌, ◌++◌, length}
+use Rattle.std.specs.Prelude.{◌≡◌, ℕ, ◌+◌, ◌≤◌, ◌⊎◌, Bool, true, false, ◌&&◌, List, [], ◌∷◌, ◌++◌, length}
 use Rattle.std.specs.List.{list_any, AllByRecursion}
 use Rattle.ck_base.specs.declared.ops.Op.{Op}
 use Rattle.ck_base.specs.declared.ops.Op.TheVariants.{IQuiet, IWakes, SPlain, SWakes, Normal, Free, Neutral}
@@ -18,10 +18,16 @@ is_outside_op SWakes = true
 is_outside_op Free = true
 is_outside_op _ = false
 
-pub record IsCallback (kernel : ℕ) (c : Callback) : Type 0 where
+pub record IsVector (v : Vector) : Type 0 where
+  pub function : is_some_text v.function ≡ true
+  pub priority : v.priority ≤ 255
+
+-- of settings of this version, with this priority of the kernel
+pub record IsCallback (version kernel : ℕ) (c : Callback) : Type 0 where
   pub of_struct : is_some_text c.of_struct ≡ true
   pub member : is_some_text c.member ≡ true
-  pub priority : kernel ≤ c.priority
+  pub priority : (kernel ≤ c.priority) × (c.priority ≤ 255)
+  pub locked : version ≡ 1 → c.locked ≡ false
 
 pub record IsFunction (f : Function) : Type 0 where
   pub name : is_outside_name f.name ≡ true
@@ -43,11 +49,12 @@ AllNew same before [] = Unit {0}
 AllNew same before (x ∷ xs) = (list_any (same x) before ≡ false) × AllNew same (before ++ x ∷ []) xs
 
 pub record AreValid (v : Values) : Type 0 where
-  pub version : v.version ≡ 1
-  pub timer : v.kernel_priority ≤ v.timer_priority
+  pub version : (v.version ≡ 1) ⊎ (v.version ≡ 2)
+  pub kernel : v.kernel_priority ≤ 255
+  pub timer : (v.kernel_priority ≤ v.timer_priority) × (v.timer_priority ≤ 255)
   pub handlers : length v.vectors + length v.callbacks ≤ 240
-  pub vectors : AllByRecursion (λ x. is_some_text x.function ≡ true) v.vectors
-  pub callbacks : AllByRecursion (IsCallback v.kernel_priority) v.callbacks
+  pub vectors : AllByRecursion IsVector v.vectors
+  pub callbacks : AllByRecursion (IsCallback v.version v.kernel_priority) v.callbacks
   pub functions : AllByRecursion IsFunction v.functions
   pub vectors_differ : AllNew same_vector [] v.vectors
   pub callbacks_differ : AllNew same_callback [] v.callbacks

@@ -1,10 +1,11 @@
 -- The settings that a document writes, with the defaults where a key is left out. They mean something where the document has
 -- no fault (specs/Faults.antt).
-use Rattle.std.specs.Prelude.{ℕ, ℤ, pos, negsuc, Bool, false, List, [], ◌∷◌, codes, map, string_bytes}
+use Rattle.std.specs.Prelude.{ℕ, ℤ, pos, negsuc, Bool, false, ◌&&◌, List, [], ◌∷◌, codes, map, string_bytes}
 use Rattle.std.specs.Option.{option_map_or}
 use Rattle.toml.specs.Data.{Data, Items, no_items, item, Members, no_members, get_member, as_str, as_integer, as_bool, as_array, as_table}
 use Rattle.ck_base.specs.declared.ops.Op.{Op}
 use Rattle.ck_base.specs.declared.ops.Op.TheVariants.{Neutral}
+use Rattle.ck_settings.specs.Keys.{has_locked}
 use Rattle.ck_settings.specs.Classes.{op_of}
 use Rattle.ck_settings.specs.declared.settings.Settings.{Settings}
 use Rattle.ck_settings.specs.declared.settings.VectorSetting.{VectorSetting}
@@ -21,6 +22,7 @@ pub record Callback : Type 0 where
   pub of_struct : List ℕ
   pub member : List ℕ
   pub priority : ℕ
+  pub locked : Bool
 
 -- an element of `function`
 pub record Function : Type 0 where
@@ -84,11 +86,13 @@ vector_of ms = record {
   priority = number_at 0 (codes "priority") ms;
 }
 
-abbrev pub callback_of : Members → Callback
-callback_of ms = record {
+-- Without the key `locked`, in a document of version 1, no callback is locked.
+abbrev pub callback_of : Bool → Members → Callback
+callback_of locked ms = record {
   of_struct = text_at (codes "struct") ms;
   member = text_at (codes "member") ms;
   priority = number_at 0 (codes "priority") ms;
+  locked = locked && truth_at (codes "locked") ms;
 }
 
 abbrev pub function_of : Members → Function
@@ -97,16 +101,19 @@ function_of ms = record {
   op = option_map_or (λ op. op) (op_of (text_at (codes "class") ms) (truth_at (codes "wakes") ms)) Neutral;
 }
 
+abbrev pub version_of : Members → ℕ
+version_of ms = number_at 0 (codes "version") ms
+
 abbrev pub kernel_priority_of : Members → ℕ
 kernel_priority_of ms = number_at 0 (codes "kernel_priority") ms
 
 abbrev pub values_of : Members → Values
 values_of ms = record {
-  version = number_at 0 (codes "version") ms;
+  version = version_of ms;
   kernel_priority = kernel_priority_of ms;
   timer_priority = number_at (kernel_priority_of ms) (codes "timer_priority") ms;
   vectors = map (λ d. vector_of (members_in d)) (elements_at (codes "vector") ms);
-  callbacks = map (λ d. callback_of (members_in d)) (elements_at (codes "callback") ms);
+  callbacks = map (λ d. callback_of (has_locked (version_of ms)) (members_in d)) (elements_at (codes "callback") ms);
   functions = map (λ d. function_of (members_in d)) (elements_at (codes "function") ms);
 }
 
@@ -116,7 +123,12 @@ abbrev pub vector_view : VectorSetting → Vector
 vector_view v = record { function = string_bytes v.function; priority = v.priority }
 
 abbrev pub callback_view : CallbackSetting → Callback
-callback_view c = record { of_struct = string_bytes c.of_struct; member = string_bytes c.member; priority = c.priority }
+callback_view c = record {
+  of_struct = string_bytes c.of_struct;
+  member = string_bytes c.member;
+  priority = c.priority;
+  locked = c.locked;
+}
 
 abbrev pub function_view : FunctionSetting → Function
 function_view f = record { name = string_bytes f.name; op = f.op }

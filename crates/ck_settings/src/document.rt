@@ -5,7 +5,7 @@ ghost use Rattle.ck_settings.specs.Documents.{Gives};
 ghost use Rattle.ck_settings.specs.Reading.{document as document_read};
 
 use crate::errors::ReadSettingsError;
-use crate::keys::{DOCUMENT_KEYS, KERNEL_PRIORITY, TIMER_PRIORITY, VERSION};
+use crate::keys::{DOCUMENT_KEYS, KERNEL_PRIORITY, LAST_VERSION, TIMER_PRIORITY, VERSION};
 use crate::lists::{callbacks, functions, vectors};
 use crate::section::{Place, Section};
 use crate::settings::Settings;
@@ -23,7 +23,7 @@ pub fn settings_in(alloc: Global, table: &Table) -> Result<Settings, ReadSetting
         table,
     };
     document.only(&DOCUMENT_KEYS)?;
-    let version = document.number(VERSION, 1, 1)?;
+    let version = document.number(VERSION, 1, LAST_VERSION)?;
     let kernel_priority = document.number(KERNEL_PRIORITY, 0, u8::MAX)?;
     let timer_priority = document.number_or(
         TIMER_PRIORITY,
@@ -32,7 +32,12 @@ pub fn settings_in(alloc: Global, table: &Table) -> Result<Settings, ReadSetting
         kernel_priority,
     )?;
     let vectors = vectors(&document)?;
-    let callbacks = callbacks(&document, kernel_priority, vectors.len())?;
+    let callbacks = callbacks(
+        &document,
+        version == LAST_VERSION,
+        kernel_priority,
+        vectors.len(),
+    )?;
     let functions = functions(&document)?;
     Ok(Settings {
         version,

@@ -2,6 +2,7 @@
 ghost use Rattle.std.specs.Prelude.{◌≡◌, [], codes, map};
 ghost use Rattle.std.specs.List.{list_any};
 ghost use Rattle.toml.specs.View.{view, table_view};
+ghost use Rattle.ck_settings.specs.Keys.{callback_list};
 ghost use Rattle.ck_settings.specs.Places.{prefix_of};
 ghost use Rattle.ck_settings.specs.Values.{callback_view, function_view, vector_view};
 ghost use Rattle.ck_settings.specs.Documents.{Gives};
@@ -16,6 +17,9 @@ ghost use Rattle.ck_settings.specs.Reading.{
   has_function,
   has_member,
   has_name,
+  locked_read,
+  fields_of,
+  only,
   op_read,
   vector as vector_read,
   vector_elements,
@@ -25,8 +29,8 @@ ghost use Rattle.ck_settings.specs.Reading.{
 use crate::classes::op_for;
 use crate::errors::ReadSettingsError;
 use crate::keys::{
-    CALLBACK, CALLBACK_KEYS, CLASS, FUNCTION, FUNCTION_KEYS, MEMBER, MOST_HANDLERS, NAME, PRIORITY,
-    STRUCT, VECTOR, VECTOR_KEYS, WAKES,
+    CALLBACK, CALLBACK_KEYS_1, CALLBACK_KEYS_2, CLASS, FUNCTION, FUNCTION_KEYS, LOCKED, MEMBER,
+    MOST_HANDLERS, NAME, PRIORITY, STRUCT, VECTOR, VECTOR_KEYS, WAKES,
 };
 use crate::section::{Section, element_of};
 use crate::settings::{CallbackSetting, FunctionSetting, VectorSetting};
@@ -79,19 +83,44 @@ fn vector_in(
     Ok(VectorSetting { function, priority })
 }
 
+/// Nothing, where the table has no keys but those of a callback, `locked` among them where callbacks
+/// have that key.
+fn only_callback_keys(section: &Section<'_>, has_locked: bool) -> Result<(), ReadSettingsError>
+    ensures { Gives (λ nothing. nothing) result (only (prefix_of section.now.place) (fields_of (callback_list has_locked)) (table_view section.now.table.now)) }
+{
+    if has_locked {
+        section.only(&CALLBACK_KEYS_2)
+    } else {
+        section.only(&CALLBACK_KEYS_1)
+    }
+}
+
+/// Whether the callback that a table writes is locked, where callbacks have that key.
+fn locked_in(section: &Section<'_>, has_locked: bool) -> Result<bool, ReadSettingsError>
+    ensures { Gives (λ b. b) result (locked_read has_locked (prefix_of section.now.place) (table_view section.now.table.now)) }
+{
+    if has_locked {
+        section.truth(LOCKED)
+    } else {
+        Ok(false)
+    }
+}
+
 /// The callback that a table writes, after these before it.
 #[tactic(auto, using(crate::proofs::Repeated::list_any_map), unfolding(crate::specs::Reading::callback))]
 fn callback_in(
     section: &Section<'_>,
+    has_locked: bool,
     kernel_priority: u8,
     before: &[CallbackSetting],
 ) -> Result<CallbackSetting, ReadSettingsError>
-    ensures { Gives callback_view result (callback_read kernel_priority (prefix_of section.now.place) (map callback_view before.now) (table_view section.now.table.now)) }
+    ensures { Gives callback_view result (callback_read has_locked kernel_priority (prefix_of section.now.place) (map callback_view before.now) (table_view section.now.table.now)) }
 {
-    section.only(&CALLBACK_KEYS)?;
+    only_callback_keys(section, has_locked)?;
     let of_struct = section.text(STRUCT)?;
     let member = section.text(MEMBER)?;
     let priority = section.number(PRIORITY, kernel_priority, u8::MAX)?;
+    let locked = locked_in(section, has_locked)?;
     if has_member(before, of_struct, member) {
         return Err(section.fault(MEMBER, SettingsKind::Repeated));
     }
@@ -101,6 +130,7 @@ fn callback_in(
         of_struct,
         member,
         priority,
+        locked,
     })
 }
 
@@ -152,14 +182,15 @@ fn vector_of(
 #[tactic(auto, unfolding(crate::specs::Reading::element))]
 fn callback_of(
     alloc: Global,
+    has_locked: bool,
     kernel_priority: u8,
     before: &[CallbackSetting],
     element: &Value,
 ) -> Result<CallbackSetting, ReadSettingsError>
-    ensures { Gives callback_view result (element_read (codes "callback") (callback_read kernel_priority) (map callback_view before.now) (view element.now)) }
+    ensures { Gives callback_view result (element_read (codes "callback") (callback_read has_locked kernel_priority) (map callback_view before.now) (view element.now)) }
 {
     let section = element_of(alloc, CALLBACK, before.len() + 1, element)?;
-    callback_in(&section, kernel_priority, before)
+    callback_in(&section, has_locked, kernel_priority, before)
 }
 
 /// The outside function that an element of `function` writes, after these before it.
@@ -190,14 +221,15 @@ fn vectors_of(alloc: Global, elements: &[Value]) -> Result<Vec<VectorSetting>, R
 /// The callbacks that the elements of `callback` write.
 fn callbacks_of(
     alloc: Global,
+    has_locked: bool,
     kernel_priority: u8,
     elements: &[Value],
 ) -> Result<Vec<CallbackSetting>, ReadSettingsError>
-    ensures { Gives (λ v. map callback_view v.items) result (callback_elements kernel_priority (map view elements.now)) }
+    ensures { Gives (λ v. map callback_view v.items) result (callback_elements has_locked kernel_priority (map view elements.now)) }
 {
     let mut callbacks = Vec::new(alloc);
     'elements: for element in elements {
-        let callback = callback_of(alloc, kernel_priority, &callbacks, element)?;
+        let callback = callback_of(alloc, has_locked, kernel_priority, &callbacks, element)?;
         callbacks.push(callback)?;
     }
     Ok(callbacks)
@@ -232,17 +264,18 @@ pub fn vectors(document: &Section<'_>) -> Result<Vec<VectorSetting>, ReadSetting
 #[tactic(auto, unfolding(crate::specs::Reading::callbacks))]
 pub fn callbacks(
     document: &Section<'_>,
+    has_locked: bool,
     kernel_priority: u8,
     vectors: usize,
 ) -> Result<Vec<CallbackSetting>, ReadSettingsError>
     requires { prefix_of document.now.place ≡ [] }
-    ensures { Gives (λ v. map callback_view v.items) result (callbacks_read kernel_priority vectors (table_view document.now.table.now)) }
+    ensures { Gives (λ v. map callback_view v.items) result (callbacks_read has_locked kernel_priority vectors (table_view document.now.table.now)) }
 {
     let elements = document.list(CALLBACK)?;
     if vectors > MOST_HANDLERS || elements.len() > MOST_HANDLERS - vectors {
         return Err(document.fault(CALLBACK, SettingsKind::OutOfRange));
     }
-    callbacks_of(document.alloc, kernel_priority, elements)
+    callbacks_of(document.alloc, has_locked, kernel_priority, elements)
 }
 
 /// The outside functions of the document.

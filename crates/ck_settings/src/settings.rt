@@ -19,6 +19,9 @@ pub struct CallbackSetting {
     pub member: String,
     /// The interrupt's priority, from the kernel's priority to 255.
     pub priority: u8,
+    /// Whether the handler calls the member inside the critical zone. In a document of version 1 no
+    /// callback is locked.
+    pub locked: bool,
 }
 
 /// A function that the project calls and has no body of.
@@ -34,7 +37,7 @@ pub struct FunctionSetting {
 /// (docs/SETTINGS.md).
 #[derive(Debug, Drop)]
 pub struct Settings {
-    /// The version of the document's form: 1.
+    /// The version of the document's form: 1 or 2.
     pub version: u8,
     /// The priority from which on interrupts may make kernel calls, 0 to 255.
     pub kernel_priority: u8,

@@ -1,4 +1,9 @@
+-- What is promised
 pub mod Solution
-pub mod Derived
+-- Private
+pub mod Listing
+pub mod Passing
 pub mod Growth
+pub mod Callers
 pub mod Alarms
+pub mod Roots

@@ -1,18 +1,27 @@
-//! The least table that has the roots and is closed: rounds over all points until one adds nothing.
-ghost use Rattle.std.specs.Prelude.{◌≡◌, ◌<◌, ℕ, length, false, All};
-ghost use Rattle.ck_graph.specs.Flow.{point_count, function_count};
+//! The least table that has the roots and is closed: a worklist of points, each of which passes on what
+//! it has, until nothing is listed.
+ghost use Rattle.std.specs.Prelude.{◌≡◌, ◌<◌, ℕ, length, All};
+ghost use Rattle.ck_graph.specs.Flow.{function_count};
 ghost use Rattle.ck_graph.specs.Faults.{IsSound};
-ghost use Rattle.ck_summary.specs.Solution.{HasNoPairs, IsMadeFor, IsSolution};
 ghost use Rattle.ck_graph.specs.Summary.{HasRoots};
-ghost use Rattle.ck_summary.specs.Derived.{HasPair, AllDerived, IsClosedAt};
-ghost use Rattle.ck_summary.specs.Growth.{IsGrowth};
+ghost use Rattle.ck_summary.specs.Solution.{
+  HasNoPairs,
+  IsMadeFor,
+  IsSolution,
+  AreCallers,
+  lists_of,
+};
+ghost use Rattle.ck_summary.specs.Listing.{size_of};
+ghost use Rattle.ck_summary.specs.Passing.{HasPair, AllDerived};
+ghost use Rattle.ck_summary.specs.Growth.{work, IsWorkFor, Grows};
 
-use crate::passing::pass_on;
-use crate::states::code;
+use crate::passing::{add_at, pass_on};
+use crate::states::entry_of;
 use crate::table::Table;
+use crate::worklist::Worklist;
 use ck_base::PointId;
 use ck_graph::{Graph, Root, Roots};
-use ck_rows::{Rows, add_pair, no_pairs};
+use ck_rows::{Rows, no_pairs};
 
 /// Fills a table that was made for this graph with what walks from the roots reach: a point has the
 /// pair of two states exactly where a walk reaches it in the second, in a call of its function that
@@ -24,19 +33,36 @@ pub fn solve(graph: &Graph, roots: &Roots, table: &mut Table)
     ensures made { IsMadeFor graph.now table.new }
     ensures solved { IsSolution graph.now roots.now.list.items table.new.rows }
 {
-    fill(graph, &roots.list, &mut table.rows);
+    fill(
+        graph,
+        &roots.list,
+        &table.callers,
+        &mut table.rows,
+        &mut table.listed,
+    );
 }
 
-/// The same on the relations themselves.
-fn fill(graph: &Graph, roots: &[Root], table: &mut [Rows])
-    requires table { length table.old ≡ point_count graph.now }
+/// Fills the relations themselves: a listed point is looked at, and what it gives something new to is
+/// listed, until nothing is.
+fn fill(
+    graph: &Graph,
+    roots: &[Root],
+    callers: &[Vec<PointId>],
+    table: &mut [Rows],
+    listed: &mut Worklist,
+)
+    requires callers { AreCallers graph.now (lists_of callers.now) }
+    requires work { IsWorkFor graph.now (work table.old listed.old) }
     requires roots { All (λ root. root.function.0 < function_count graph.now) roots.now }
-    ensures { IsSolution graph.now roots.now table.new }
+    ensures solved { IsSolution graph.now roots.now table.new }
+    ensures size { size_of listed.new ≡ size_of listed.old }
 {
-    let points = graph.points();
+    let _points = graph.points();
     clear(table);
-    enter_roots(graph, roots, table);
-    'rounds: while one_round(graph, points, table) {}
+    enter_roots(graph, roots, table, listed);
+    'looks: while let Some(number) = listed.take() {
+        pass_on(graph, callers, table, listed, PointId(number));
+    }
 }
 
 /// Takes all pairs away.
@@ -49,34 +75,17 @@ fn clear(table: &mut [Rows])
 }
 
 /// Enters each root's function in the root's state.
-fn enter_roots(graph: &Graph, roots: &[Root], table: &mut [Rows])
+fn enter_roots(graph: &Graph, roots: &[Root], table: &mut [Rows], listed: &mut Worklist)
     requires sound { IsSound graph.now }
-    requires table { length table.old ≡ point_count graph.now }
+    requires work { IsWorkFor graph.now (work table.old listed.old) }
     requires roots { All (λ root. root.function.0 < function_count graph.now) roots.now }
     requires empty { HasNoPairs table.old }
     ensures derived { AllDerived graph.now roots.now table.new }
     ensures entered { HasRoots graph.now roots.now (HasPair table.new) }
+    ensures grows { Grows (work table.old listed.old) (work table.new listed.new) }
 {
     for root in roots {
-        let first = graph.first(root.function);
-        let start = code(root.start);
-        add_pair(&mut table[first.0 as usize], start, start);
+        let entry = entry_of(root.start);
+        add_at(table, listed, graph.first(root.function), &entry);
     }
-}
-
-/// Lets each point pass on what it has, and answers whether the table grew.
-fn one_round(graph: &Graph, points: u32, table: &mut [Rows]) -> bool
-    requires sound { IsSound graph.now }
-    requires points { points ≡ point_count graph.now }
-    requires table { length table.old ≡ point_count graph.now }
-    ensures growth { IsGrowth graph.now table.old table.new result }
-    ensures closed { result ≡ false → (p : ℕ) → p < point_count graph.now → IsClosedAt graph.now table.new p }
-{
-    let mut grew = false;
-    for number in 0..points {
-        if pass_on(graph, table, PointId(number)) {
-            grew = true;
-        }
-    }
-    grew
 }

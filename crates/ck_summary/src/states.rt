@@ -3,6 +3,7 @@ ghost use Rattle.std.specs.Prelude.{◌≡◌, ◌<◌, ◌↔◌, ℕ, IsTrue};
 ghost use Rattle.ck_base.specs.Act.{state_code};
 ghost use Rattle.ck_rows.specs.Relation.{Relates};
 ghost use Rattle.ck_summary.specs.Growth.{AreEntries, IsStep};
+ghost use Rattle.ck_summary.specs.Roots.{IsEntry};
 
 use ck_base::{Op, State};
 use ck_rows::{Rows, add_pair, has_pair, no_pairs};
@@ -99,4 +100,14 @@ pub(crate) fn entries_of(rows: &Rows) -> Rows
         }
     }
     entries
+}
+
+/// The relation of a state and itself, with which a root's function is entered.
+pub(crate) fn entry_of(state: State) -> Rows
+    ensures { IsEntry state result }
+{
+    let number = code(state);
+    let mut entry = no_pairs();
+    add_pair(&mut entry, number, number);
+    entry
 }

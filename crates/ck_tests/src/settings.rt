@@ -127,6 +127,32 @@ fn lists_in_written_order(rt: HostRuntime) -> Result<(), Fail> {
     Ok(())
 }
 
+/// Callbacks of a document of version 2, and whether they are locked.
+const LOCKED: [(&str, bool); 3] = [
+    ("", false),
+    ("locked = false", false),
+    ("locked = true", true),
+];
+
+#[test]
+fn locked_callbacks(rt: HostRuntime) -> Result<(), Fail> {
+    for (key, locked) in LOCKED {
+        let text = format!(in rt.alloc();
+            "version = 2\nkernel_priority = 2\n[[callback]]\nstruct = \"Ops\"\nmember = \"done\"\npriority = 5\n{key}\n"
+        )?;
+        let settings = settings_of(rt.alloc(), text.as_str())?;
+        assert_eq!(rt; settings.version, 2, "at {key}");
+        assert!(rt;
+            settings
+                .callbacks
+                .iter()
+                .all(|callback| callback.locked == locked),
+            "at {key}"
+        );
+    }
+    Ok(())
+}
+
 /// The settings of examples/gpt-settings.
 const EXAMPLE: &str =
     "version = 1\nkernel_priority = 2\n[[callback]]\nstruct = \"GPTConfig\"\nmember = \"callback\"\npriority = 6\n[[function]]\nname = \"gptStart\"\nclass = \"normal\"\n[[function]]\nname = \"palToggleLine\"\nclass = \"neutral\"\n";

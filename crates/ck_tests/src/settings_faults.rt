@@ -29,10 +29,11 @@ fn first_wrong(alloc: Global, front: &str, rows: &[Row]) -> Result<Option<&'stat
 }
 
 /// A needed key that isn't there.
-const MISSING: [Row; 4] = [
+const MISSING: [Row; 5] = [
     ("", "version", SettingsKind::Missing),
     ("# nothing\n", "version", SettingsKind::Missing),
     ("version = 1", "kernel_priority", SettingsKind::Missing),
+    ("version = 2", "kernel_priority", SettingsKind::Missing),
     ("kernel_priority = 1", "version", SettingsKind::Missing),
 ];
 
@@ -80,7 +81,7 @@ const UNKNOWN: [Row; 11] = [
 ];
 
 /// `version`.
-const VERSION: [Row; 12] = [
+const VERSION: [Row; 13] = [
     ("version = \"1\"", "version", SettingsKind::WrongType),
     ("version = 1.0", "version", SettingsKind::WrongType),
     ("version = true", "version", SettingsKind::WrongType),
@@ -90,7 +91,12 @@ const VERSION: [Row; 12] = [
     ("[version]", "version", SettingsKind::WrongType),
     ("version.number = 1", "version", SettingsKind::WrongType),
     ("version = 0", "version", SettingsKind::OutOfRange),
-    ("version = 2", "version", SettingsKind::OutOfRange),
+    ("version = 3", "version", SettingsKind::OutOfRange),
+    (
+        "version = 3\ncallback = [{locked = 1}]",
+        "version",
+        SettingsKind::OutOfRange,
+    ),
     ("version = -1", "version", SettingsKind::OutOfRange),
     ("version = 257", "version", SettingsKind::OutOfRange),
 ];
@@ -142,7 +148,7 @@ const TWO_KEYS: [Row; 7] = [
         SettingsKind::OutOfRange,
     ),
     (
-        "version = 2\nkernel_priority = \"\"",
+        "version = 3\nkernel_priority = \"\"",
         "version",
         SettingsKind::OutOfRange,
     ),
@@ -319,8 +325,13 @@ const VECTOR: [Row; 15] = [
 ];
 
 /// `callback`.
-const CALLBACK: [Row; 11] = [
+const CALLBACK: [Row; 12] = [
     ("[[callback]]", "callback[1].struct", SettingsKind::Missing),
+    (
+        "[[callback]]\nlocked = true",
+        "callback[1].locked",
+        SettingsKind::Unknown,
+    ),
     (
         "[[callback]]\nstruct = true",
         "callback[1].struct",

@@ -6,7 +6,7 @@ use ck_kernel::{entry_parameter, name, op, parameters, row_of};
 
 /// A name, the number of its row, its op, its number of parameters, and which of them becomes a
 /// function.
-const ROWS: [(&str, u16, Op, u8, EntrySink); 18] = [
+const ROWS: [(&str, u16, Op, u8, EntrySink); 20] = [
     ("chSysInit", 0, Init, 0, Absent),
     ("CH_IRQ_PROLOGUE", 8, Prologue, 0, Absent),
     ("chSysHalt", 10, Halt, 1, Absent),
@@ -25,6 +25,8 @@ const ROWS: [(&str, u16, Op, u8, EntrySink); 18] = [
     ("chMBFetchTimeoutS", 118, SPlain, 3, Absent),
     ("chThdGetSelfX", 120, Free, 0, Absent),
     ("chThdQueueObjectInit", 133, Free, 1, Absent),
+    ("chSysGetStatusAndLockX", 134, GetStatus, 0, Absent),
+    ("chSysRestoreStatusX", 135, RestoreStatus, 1, Absent),
 ];
 
 /// Whether a name is that of the row of this number, with this op and these parameters.
@@ -52,7 +54,7 @@ fn rows_of_the_call_table(rt: HostRuntime) {
 #[tactic(auto, unfolding(ck_kernel::specs::KernelTable::kernel_table))]
 #[test]
 fn names_of_all_rows(rt: HostRuntime) {
-    for number in 0..134 {
+    for number in 0..136 {
         let row = RowId(number);
         assert!(rt; row_of(name(row)) == Some(row), "at {number}");
     }
@@ -82,7 +84,7 @@ fn names_of_no_kernel_call(rt: HostRuntime) {
 /// Names of the kernel that are outside the table, and almost those of rows.
 const OUTSIDE: [&str; 8] = [
     "chSysUnconditionalLock",
-    "chSysGetStatusAndLockX",
+    "chSchDoReschedule",
     "CH_IRQ_HANDLER",
     "chThdSleepMilliseconds",
     "chSysInit ",

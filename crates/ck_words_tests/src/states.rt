@@ -5,7 +5,7 @@ use std::alloc::Global;
 use std::test::Fail;
 
 /// The columns of the table.
-const STATES: [State; 11] = [
+const STATES: [State; 16] = [
     State::TI,
     State::TN,
     State::TS,
@@ -17,11 +17,17 @@ const STATES: [State; 11] = [
     State::HL,
     State::HE,
     State::FF,
+    State::XL,
+    State::NL,
+    State::NP,
+    State::OX,
+    State::ON,
 ];
 
 /// The ops of the rows.
-const OPS: [Op; 22] = [
+const OPS: [Op; 26] = [
     Op::Init,
+    Op::Halt,
     Op::Disable,
     Op::Suspend,
     Op::Enable,
@@ -41,35 +47,42 @@ const OPS: [Op; 22] = [
     Op::ExitS,
     Op::Free,
     Op::Neutral,
-    Op::Halt,
     Op::HandlerReturn,
+    Op::GetStatus,
+    Op::RestoreStatus,
+    Op::PairEnter,
+    Op::PairLeft,
 ];
 
 /// For each op and state: the next state, `End`, or the alarm.
-const ROWS: [&str; 22] = [
-    // op          TI   TN   TS   TD   TL   TP   HB   HO   HL   HE   FF
-    "Init          TN   P4   P4   P4   P4   P4   P2   P2   P2   P2   P5",
-    "Disable       P4   TD   TD   TD   SV1  SV1  P2   SV1  SV1  P2   P5",
-    "Suspend       P4   TS   TS   TS   SV2  SV2  P2   SV2  SV2  P2   P5",
-    "Enable        P4   TN   TN   TN   SV3  SV3  P2   SV3  SV3  P2   P5",
-    "Lock          P4   TL   P4   P4   SV4  SV4  P2   SV4  SV4  P2   P5",
-    "Unlock        SV5  SV5  SV5  SV5  TN   ORDER SV5  SV5  SV5  SV5  P5",
-    "LockIsr       SV6  SV6  SV6  SV6  SV6  SV6  SV6  HL   SV6  SV6  P5",
-    "UnlockIsr     SV7  SV7  SV7  SV7  SV7  SV7  SV7  SV7  HO   SV7  P5",
-    "Prologue      P1   P1   P1   P1   SV8  SV8  HO   P1   SV8  P2   P5",
-    "Epilogue      SV9  SV9  SV9  SV9  SV9  SV9  SV9  HE   SV9  SV9  P5",
-    "IQuiet        SV10 SV10 SV10 SV10 TL   TP   SV10 SV10 HL   SV10 P5",
-    "IWakes        SV10 SV10 SV10 SV10 TP   TP   SV10 SV10 HL   SV10 P5",
-    "SPlain        SV11 SV11 SV11 SV11 TL   TP   SV11 SV11 SV11 SV11 P5",
-    "SWakes        SV11 SV11 SV11 SV11 TP   TP   SV11 SV11 SV11 SV11 P5",
-    "SSettles      SV11 SV11 SV11 SV11 TL   TL   SV11 SV11 SV11 SV11 P5",
-    "Normal        P4   TN   P4   P4   SV4  SV4  P2   SV4  SV4  P2   P5",
-    "ExitNormal    P4   End  P4   P4   SV4  SV4  P2   SV4  SV4  P2   P5",
-    "ExitS         SV11 SV11 SV11 SV11 End  End  SV11 SV11 SV11 SV11 P5",
-    "Free          TI   TN   TS   TD   TL   TP   HB   HO   HL   HE   P5",
-    "Neutral       TI   TN   TS   TD   TL   TP   HB   HO   HL   HE   FF",
-    "Halt          End  End  End  End  End  End  End  End  End  End  End",
-    "HandlerReturn P3   P3   P3   P3   P3   P3   P3   P3   P3   End  End",
+const ROWS: [&str; 26] = [
+    // op           TI    TN    TS    TD    TL    TP    HB    HO    HL    HE    FF    XL    NL    NP    OX    ON
+    "Init          TN    P4    P4    P4    P4    P4    P2    P2    P2    P2    P5    P4    P4    P4    P2    P2",
+    "Halt          End   End   End   End   End   End   End   End   End   End   End   End   End   End   End   End",
+    "Disable       P4    TD    TD    TD    SV1   SV1   P2    SV1   SV1   P2    P5    SV1   SV1   SV1   SV1   SV1",
+    "Suspend       P4    TS    TS    TS    SV2   SV2   P2    SV2   SV2   P2    P5    SV2   SV2   SV2   SV2   SV2",
+    "Enable        P4    TN    TN    TN    SV3   SV3   P2    SV3   SV3   P2    P5    SV3   SV3   SV3   SV3   SV3",
+    "Lock          P4    TL    P4    P4    SV4   SV4   P2    SV4   SV4   P2    P5    SV4   SV4   SV4   SV4   SV4",
+    "Unlock        SV5   SV5   SV5   SV5   TN    ORDER SV5   SV5   SV5   SV5   P5    P8    P8    ORDER SV5   SV5",
+    "LockIsr       SV6   SV6   SV6   SV6   SV6   SV6   SV6   HL    SV6   SV6   P5    SV6   SV6   SV6   SV6   SV6",
+    "UnlockIsr     SV7   SV7   SV7   SV7   SV7   SV7   SV7   SV7   HO    SV7   P5    SV7   SV7   SV7   P8    P8",
+    "Prologue      P1    P1    P1    P1    SV8   SV8   HO    P1    SV8   P2    P5    SV8   SV8   SV8   SV8   SV8",
+    "Epilogue      SV9   SV9   SV9   SV9   SV9   SV9   SV9   HE    SV9   SV9   P5    SV9   SV9   SV9   SV9   SV9",
+    "IQuiet        SV10  SV10  SV10  SV10  TL    TP    SV10  SV10  HL    SV10  P5    XL    NL    NP    OX    ON",
+    "IWakes        SV10  SV10  SV10  SV10  TP    TP    SV10  SV10  HL    SV10  P5    XL    NP    NP    OX    ON",
+    "SPlain        SV11  SV11  SV11  SV11  TL    TP    SV11  SV11  SV11  SV11  P5    XL    NL    NP    SV11  SV11",
+    "SWakes        SV11  SV11  SV11  SV11  TP    TP    SV11  SV11  SV11  SV11  P5    XL    NP    NP    SV11  SV11",
+    "SSettles      SV11  SV11  SV11  SV11  TL    TL    SV11  SV11  SV11  SV11  P5    XL    NL    NL    SV11  SV11",
+    "Normal        P4    TN    P4    P4    SV4   SV4   P2    SV4   SV4   P2    P5    SV4   SV4   SV4   SV4   SV4",
+    "ExitNormal    P4    End   P4    P4    SV4   SV4   P2    SV4   SV4   P2    P5    SV4   SV4   SV4   SV4   SV4",
+    "ExitS         SV11  SV11  SV11  SV11  End   End   SV11  SV11  SV11  SV11  P5    End   End   End   SV11  SV11",
+    "Free          TI    TN    TS    TD    TL    TP    HB    HO    HL    HE    P5    XL    NL    NP    OX    ON",
+    "Neutral       TI    TN    TS    TD    TL    TP    HB    HO    HL    HE    FF    XL    NL    NP    OX    ON",
+    "HandlerReturn P3    P3    P3    P3    P3    P3    P3    P3    P3    End   End   P3    P3    P3    P3    P3",
+    "GetStatus     P4    XL    P4    P4    NL    NP    SV6   OX    ON    SV6   P5    P6    P6    P6    P6    P6",
+    "RestoreStatus P7    P7    P7    P7    P7    P7    P7    P7    P7    P7    P5    TN    TL    TP    HO    HL",
+    "PairEnter     TI    TN    TS    TD    TL    TP    HB    HO    HL    HE    FF    P6    P6    P6    P6    P6",
+    "PairLeft      TI    TN    TS    TD    TL    TP    HB    HO    HL    HE    FF    P8    P8    P8    P8    P8",
 ];
 
 /// Adds a blank and the word for an outcome.

@@ -7,4 +7,5 @@ use Rattle.ck_cli.proofs.is_check.Goals as goal
 pub returns-in-len2 : goal.returns-in-len2
 returns-in-len2 c =
     let two : length c.args.words.now ≡ 2 = omega arith in
-    check_words string_bytes c.args.words.now c.word-item.result c.eq.result two c.word-item.is (c.eq.ensures ∙ ap (λ w. bytes_eq w (codes "check")) c.as_str.ensures.value)
+    check_words string_bytes c.args.words.now c.word-item.result c.eq.result two c.word-item.is
+    (c.eq.ensures ∙ ap (λ w. bytes_eq w (codes "check")) c.as_str.ensures.value)

@@ -17,7 +17,15 @@ returns c =
       of_acts = acts.placed;
       last = record { call = call.call; place = place_of c.place.result };
       of_last = record { call = refl; place = c.place.ensures };
-      written = seven_pieces c.new-text.result.items c.push_line.new.text.items c.push_line-2.new.text.items c.push_alarm.new.text.items c.push_entry.new.text.items c.push_line-3.new.text.items c.push_acts.new.text.items c.push_line-4.new.text.items
-          first_line (line (codes "rejected 1")) (alarm_line (record { call = call.call; place = place_of c.place.result }) c.args.alarm.now.kind) (entry_lines (place_of c.place-2.result)) (line (codes "segment 2 main")) (flat_map act_line acts.acts) (line (codes "  alarm"))
-          c.new-text.ensures.items c.in_ok-push_line.ensures c.in_ok-push_line-2.ensures c.in_ok-push_alarm.ensures c.in_ok-push_entry.ensures c.in_ok-push_line-3.ensures acts.written c.in_ok-push_line-4.ensures;
+      written = seven_pieces c.new-text.result.items c.push_line.new.text.items c.push_line-2.new.text.items
+          c.push_alarm.new.text.items c.push_entry.new.text.items c.push_line-3.new.text.items
+          c.push_acts.new.text.items c.push_line-4.new.text.items
+          first_line (line (codes "rejected 1")) (alarm_line (record {
+            call = call.call;
+            place = place_of
+                c.place.result;
+          }) c.args.alarm.now.kind) (entry_lines (place_of c.place-2.result))
+          (line (codes "segment 2 main")) (flat_map act_line acts.acts) (line (codes "  alarm"))
+          c.new-text.ensures.items c.in_ok-push_line.ensures c.in_ok-push_line-2.ensures c.in_ok-push_alarm.ensures
+          c.in_ok-push_entry.ensures c.in_ok-push_line-3.ensures acts.written c.in_ok-push_line-4.ensures;
     }

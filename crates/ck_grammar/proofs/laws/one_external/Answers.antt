@@ -1,4 +1,4 @@
-use Rattle.ck_grammar.proofs.FilesRead.{one_external}
+use Rattle.ck_grammar.proofs.FilesComplete.{one_external}
 use Rattle.ck_grammar.proofs.laws.one_external.Goals as goal
 
 pub returns : goal.returns

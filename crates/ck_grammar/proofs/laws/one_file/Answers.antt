@@ -1,4 +1,4 @@
-use Rattle.ck_grammar.proofs.FilesRead.{one_file}
+use Rattle.ck_grammar.proofs.FilesComplete.{one_file}
 use Rattle.ck_grammar.proofs.laws.one_file.Goals as goal
 
 pub returns : goal.returns

@@ -1,4 +1,4 @@
-use Rattle.ck_grammar.proofs.FilesRead.{one_statement}
+use Rattle.ck_grammar.proofs.FilesComplete.{one_statement}
 use Rattle.ck_grammar.proofs.laws.one_statement.Goals as goal
 
 pub returns : goal.returns

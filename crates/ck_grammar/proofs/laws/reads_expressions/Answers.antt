@@ -1,4 +1,4 @@
-use Rattle.ck_grammar.proofs.LongestRead.{reads_expressions}
+use Rattle.ck_grammar.proofs.LongestAnswered.{reads_expressions}
 use Rattle.ck_grammar.proofs.laws.reads_expressions.Goals as goal
 
 pub returns : goal.returns

@@ -10,5 +10,6 @@ loop-at-preserved c =
     let rest : take (length text - at) (drop at text) ≡ drop at text = take_rest text at in
     record {
       within = omega (arith, c.in-Some.ensures.within, ap length rest, length-drop at text);
-      so_far = characters-more text (take (length text - at) (drop at text)) at c.in-Some.size rest (sym c.in-Some.ensures.size) c.in-Some.ensures.some c.in-Some.ensures.within ∙ c.loop-at.invariant.so_far;
+      so_far = characters-more text (take (length text - at) (drop at text)) at c.in-Some.size rest
+          (sym c.in-Some.ensures.size) c.in-Some.ensures.some c.in-Some.ensures.within ∙ c.loop-at.invariant.so_far;
     }

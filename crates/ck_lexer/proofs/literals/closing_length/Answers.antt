@@ -13,11 +13,13 @@ loop-length-preserved c =
     let text = c.args.text.now in
     let at = c.loop-length.length in
     let rest : take (length text - at) (drop at text) ≡ drop at text = take_rest text at in
-    let step : literal_step c.args.quote (take (length text - at) (drop at text)) ≡ On c.in-On.size = sym c.in-On.ensures in
+    let step : literal_step c.args.quote (take (length text - at)
+    (drop at text)) ≡ On c.in-On.size = sym c.in-On.ensures in
     let on = closing-on c.args.quote (take (length text - at) (drop at text)) c.in-On.size step in
     record {
       within = omega (arith, on.fits, ap length rest, length-drop at text);
-      so_far = closing-more c.args.quote text (take (length text - at) (drop at text)) at c.in-On.size rest step ∙ c.loop-length.invariant.so_far;
+      so_far = closing-more c.args.quote text (take (length text - at) (drop at text)) at c.in-On.size rest step
+          ∙ c.loop-length.invariant.so_far;
     }
 
 pub returns-in-Closed : goal.returns-in-Closed
@@ -25,7 +27,8 @@ returns-in-Closed c =
     let text = c.args.text.now in
     let at = c.loop-length.length in
     record {
-      found = sym (closing-end c.args.quote text (take (length text - at) (drop at text)) at (take_rest text at) (sym c.in-Closed.ensures)) ∙ c.loop-length.invariant.so_far;
+      found = sym (closing-end c.args.quote text (take (length text - at) (drop at text)) at (take_rest text at)
+          (sym c.in-Closed.ensures)) ∙ c.loop-length.invariant.so_far;
       within = (omega arith, omega arith);
     }
 
@@ -34,6 +37,7 @@ returns-in-Broken c =
     let text = c.args.text.now in
     let at = c.loop-length.length in
     record {
-      found = sym (closing-none c.args.quote text (take (length text - at) (drop at text)) at (take_rest text at) (sym c.in-Broken.ensures)) ∙ c.loop-length.invariant.so_far;
+      found = sym (closing-none c.args.quote text (take (length text - at) (drop at text)) at (take_rest text at)
+          (sym c.in-Broken.ensures)) ∙ c.loop-length.invariant.so_far;
       within = tt;
     }

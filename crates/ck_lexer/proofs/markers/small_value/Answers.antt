@@ -4,10 +4,12 @@ use Rattle.ck_lexer.proofs.markers.small_value.Goals as goal
 
 pub overflow_mul-value : goal.overflow_mul-value
 overflow_mul-value c =
-    let power : 10 ^ c.loop-byte.byte-index ≤ 10 ^ 8 = pow-le-pow_right {n = 10} (omega arith) {i = c.loop-byte.byte-index} {j = 8} (omega arith) in
+    let power : 10 ^ c.loop-byte.byte-index ≤ 10 ^ 8 = pow-le-pow_right {n = 10} (omega arith)
+    {i = c.loop-byte.byte-index} {j = 8} (omega arith) in
     omega arith
 
 pub overflow_add-value : goal.overflow_add-value
 overflow_add-value c =
-    let power : 10 ^ c.loop-byte.byte-index ≤ 10 ^ 8 = pow-le-pow_right {n = 10} (omega arith) {i = c.loop-byte.byte-index} {j = 8} (omega arith) in
+    let power : 10 ^ c.loop-byte.byte-index ≤ 10 ^ 8 = pow-le-pow_right {n = 10} (omega arith)
+    {i = c.loop-byte.byte-index} {j = 8} (omega arith) in
     omega arith

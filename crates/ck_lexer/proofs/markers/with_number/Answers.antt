@@ -6,4 +6,5 @@ use Rattle.ck_lexer.proofs.markers.with_number.Goals as goal
 
 pub small_value-number-requires-clause-digits : goal.small_value-number-requires-clause-digits
 small_value-number-requires-clause-digits c =
-    ap (λ n. list_all is_digit (take n c.args.text.now)) c.digits_length-length.ensures ∙ prefix_all is_digit c.args.text.now
+    ap (λ n. list_all is_digit (take n c.args.text.now)) c.digits_length-length.ensures
+    ∙ prefix_all is_digit c.args.text.now

@@ -9,12 +9,16 @@ returns-in-None c = λ fits.
     let i = c.loop-digit.digit-index in
     let more = value_more b i c.args.digits.now c.loop-digit-test.true in
     let front = value-take-le b (i + 1) c.args.digits.now (base-positive c.args.base) in
-    let same : c.loop-digit.value * b ≡ value_of b (take i c.args.digits.now) * b = ap (λ v. v * b) c.loop-digit.invariant.so_far in
+    let same : c.loop-digit.value * b ≡ value_of b (take i c.args.digits.now) * b = ap
+    (λ v. v * b) c.loop-digit.invariant.so_far in
     c.in-None.ensures (omega (arith, more, front, same))
 
 pub returns : goal.returns
 returns c =
-    let whole : take c.loop-digit.digit-index c.args.digits.now ≡ c.args.digits.now = take_all c.loop-digit.digit-index c.args.digits.now c.loop-digit-test.false in
-    let value : c.loop-digit.value ≡ value_of (number_of c.args.base) c.args.digits.now = c.loop-digit.invariant.so_far ∙ ap (value_of (number_of c.args.base)) whole in
+    let whole : take c.loop-digit.digit-index c.args.digits.now ≡ c.args.digits.now = take_all
+    c.loop-digit.digit-index c.args.digits.now c.loop-digit-test.false in
+    let value : c.loop-digit.value ≡ value_of
+    (number_of c.args.base) c.args.digits.now = c.loop-digit.invariant.so_far
+    ∙ ap (value_of (number_of c.args.base)) whole in
     let P : ℕ → Type 0 = λ v. v < 2 ^ 64 in
     (subst P value c.loop-digit.invariant.fits, value)

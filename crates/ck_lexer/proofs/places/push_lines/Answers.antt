@@ -9,7 +9,8 @@ use Rattle.ck_lexer.proofs.places.push_lines.Goals as goal
 use Rattle.ck_lexer.proofs.places.push_lines.Goals.{then-bytes-feed-eq10+in_ok-push_line, else-bytes-feed-eq10}
 
 pub loop-feed-init : goal.loop-feed-init
-loop-feed-init c = follows_start c.args.bytes.now c.args.lines.now.items c.args.on c.args.at c.requires.numbered c.requires.begun
+loop-feed-init c = follows_start c.args.bytes.now c.args.lines.now.items c.args.on c.args.at c.requires.numbered
+    c.requires.begun
 
 pub loop-feed-preserved : goal.loop-feed-preserved
 loop-feed-preserved c =
@@ -22,12 +23,14 @@ loop-feed-preserved c =
     let inside : feed < length bytes = omega arith in
     elim c.if-bytes-feed-eq10.branch [
       | then-bytes-feed-eq10+in_ok-push_line w ↦
-          follows_feed bytes c.args.lines.now.items lines after c.args.on line next c.args.at feed c.loop-feed.invariant c.loop-feed.auto.feed inside
+          follows_feed bytes c.args.lines.now.items lines after c.args.on line next c.args.at feed
+          c.loop-feed.invariant c.loop-feed.auto.feed inside
           (same-eqb _ 10 w.if-bytes-feed-eq10.true)
           (ap (λ (v : Vec Line Global). v.items) w.lines-is ∙ w.in_ok-push_line.ensures)
           w.line-is
       | else-bytes-feed-eq10 w ↦
-          follows_byte bytes c.args.lines.now.items lines after c.args.on line next c.args.at feed c.loop-feed.invariant inside
+          follows_byte bytes c.args.lines.now.items lines after c.args.on line next c.args.at feed
+          c.loop-feed.invariant inside
           (no-test _ (λ same. w.if-bytes-feed-eq10.false (eqb-same _ 10 same)))
           (ap (λ (v : Vec Line Global). v.items) w.lines-is)
           w.line-is
@@ -36,4 +39,5 @@ loop-feed-preserved c =
 pub returns-clause-lines : goal.returns-clause-lines
 returns-clause-lines c =
     let e : c.loop-feed.feed ≡ c.args.end = omega (arith, c.loop-feed.auto.feed-end c.requires.rises) in
-    subst (GoesOn c.args.bytes.now c.args.lines.now.items c.args.on c.args.at c.loop-feed.lines.items c.loop-feed.line) e c.loop-feed.invariant.found
+    subst (GoesOn c.args.bytes.now c.args.lines.now.items c.args.on c.args.at c.loop-feed.lines.items
+    c.loop-feed.line) e c.loop-feed.invariant.found

@@ -1,14 +1,17 @@
+use Rattle.std.proofs.Common.{◌+◌}
 use Rattle.ck_graph.specs.Summary.{HasRoots}
-use Rattle.ck_summary.specs.Derived.{HasPair, AllDerived}
-use Rattle.ck_summary.specs.Growth.{table_room}
+use Rattle.ck_summary.specs.Passing.{HasPair, AllDerived, IsClosedBut}
+use Rattle.ck_summary.specs.Growth.{work, IsWorkFor, table_room}
 use Rattle.ck_summary.proofs.solving.fill.Given as goal
 
--- the table has the roots, and derived pairs alone
-abbrev pub invariant-rounds : goal.invariant-rounds
-invariant-rounds l = record {
+-- the table has the roots, and derived pairs alone, and is closed but for what listed points have
+abbrev pub invariant-looks : goal.invariant-looks
+invariant-looks l = record {
   derived : AllDerived l.graph l.roots l.table;
   entered : HasRoots l.graph l.roots (HasPair l.table);
+  closed : IsClosedBut l.graph l.listed l.table;
+  work : IsWorkFor l.graph (work l.table l.listed);
 }
 
-abbrev pub decreases-rounds : goal.decreases-rounds
-decreases-rounds l = table_room l.table
+abbrev pub decreases-looks : goal.decreases-looks
+decreases-looks l = table_room l.table + l.listed.count

@@ -10,7 +10,8 @@ use Rattle.ck_io.proofs.Told.{has_bytes}
 use Rattle.ck_io.proofs.memory_folder.MemoryFolderFolder.read_at.Goals as goal
 
 -- a reference is there where what it points to is
-some_lent : (lent : Option (Bor (List ℕ))) (bytes : Option (List ℕ)) → option_copied lent ≡ bytes → IsSome bytes → IsSome lent
+some_lent : (lent : Option (Bor (List ℕ))) (bytes : Option (List ℕ))
+    → option_copied lent ≡ bytes → IsSome bytes → IsSome lent
 some_lent None bytes same some = cc
 some_lent (Some r) bytes same some = refl
 
