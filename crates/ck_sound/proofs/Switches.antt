@@ -6,15 +6,25 @@ use Rattle.ck_base.specs.declared.ops.Op.TheVariants.{Unlock}
 use Rattle.ck_base.specs.declared.states.State.{State}
 use Rattle.ck_base.specs.declared.states.State.TheVariants.{TI, TN, TL, TP, XL, NL, NP}
 use Rattle.ck_base.specs.Counters.{counters, halt_of}
-use Rattle.ck_sound.specs.Kernel.{Kernel, Thread, Status, Runs, IsReady, Left, New, Preempted, InNormalCall, InSCall, InNormal, Done, is_ready, is_best, ready_above, count, nth_place, thread_at, no_thread, running_thread, checked, unlocked, unlocked_by, unlocked_at, started, goes_on, switched, switched_to, left_as, rescheduled, first, later}
-use Rattle.ck_sound.specs.Sound.{Fits, is_parked, fits_left, is_thread, in_zone, is_normal, locked, phase_of, AreLinked, Holds, Survives}
+use Rattle.ck_sound.specs.declared.threads.Left.{Left}
+use Rattle.ck_sound.specs.declared.threads.Left.TheVariants.{New, Preempted, InNormalCall, InSCall}
+use Rattle.ck_sound.specs.declared.threads.Thread.{Thread}
+use Rattle.ck_sound.specs.declared.threads.ThreadStatus.{ThreadStatus}
+use Rattle.ck_sound.specs.declared.threads.ThreadStatus.TheVariants.{Running, Ready}
+use Rattle.ck_sound.specs.Choices.{first, later}
+use Rattle.ck_sound.specs.Kernel.{Kernel, Done, running_thread, checked}
+use Rattle.ck_sound.specs.Sound.{Fits, is_parked, fits_left, AreLinked, Holds, Survives}
+use Rattle.ck_sound.specs.Switch.{unlocked, unlocked_by, unlocked_at, started, goes_on, switched, switched_to, left_as, rescheduled}
+use Rattle.ck_sound.specs.SystemStates.{is_thread, in_zone, is_normal, locked, phase_of}
+use Rattle.ck_sound.specs.Threads.{is_ready, is_best, ready_above, count, nth_place, thread_at, no_thread}
+use Rattle.ck_sound.specs.declared.kernel.Phase.TheVariants as in_phase
 use Rattle.ck_sound.proofs.Lists.{zip-set, zip-set_left, zip-get}
-use Rattle.ck_sound.proofs.Threads.{Passes, nth-passes, priority-set, length_set, above-set, and-left, and-right, not-true}
+use Rattle.ck_sound.proofs.ReadyThreads.{Passes, nth-passes, priority-set, length_set, above-set, and-left, and-right, not-true}
 
 -- what a switch needs: no handler, and each thread that is ready or waits fits
 pub record MayLeave (kp : ℕ) (k : Kernel) (states : List State) : Type 0 where
   pub fits : AllZip Fits k.threads states
-  pub phase : k.phase ≡ InNormal
+  pub phase : k.phase ≡ in_phase.Normal
   pub linked : AreLinked kp k.handlers []
   pub isr_cnt : k.isr_cnt ≡ 0
   pub leaving : k.leaving ≡ false
@@ -22,7 +32,7 @@ pub record MayLeave (kp : ℕ) (k : Kernel) (states : List State) : Type 0 where
 -- a state in which a thread may get the processor
 record CanRun (s : State) : Type 0 where
   thread : is_thread s ≡ true
-  phase : InNormal ≡ phase_of s
+  phase : in_phase.Normal ≡ phase_of s
   later : s ≡ TI → ⊥
 
 can-run_zone : (s : State) → in_zone s ≡ true → CanRun s
@@ -45,13 +55,13 @@ pub normal-is : (s : State) → is_normal s ≡ true → s ≡ TN
 normal-is TN e = refl
 normal-is _ e = absurd (cc)
 
-ready-parked : (s : Status) → is_ready s ≡ true → is_parked s ≡ true
-ready-parked IsReady e = refl
+ready-parked : (s : ThreadStatus) → is_ready s ≡ true → is_parked s ≡ true
+ready-parked Ready e = refl
 ready-parked _ e = absurd (cc)
 
 started-holds : (kp : ℕ) (k : Kernel) (states : List State) (place : ℕ) (s : State) (lock : ℕ) → MayLeave kp k states → Passes (is_best k.threads) k.threads place → get_or states place TN ≡ s → CanRun s → lock ≡ locked s → Holds kp (record (started k place) { lock_cnt = lock }) states s []
 started-holds kp k states place s lock h found here can is_lock =
-    let t : Thread = record (thread_at k.threads place) { status = Runs } in
+    let t : Thread = record (thread_at k.threads place) { status = Running } in
     let same : (thread_at (set k.threads place t) place).priority ≡ (thread_at k.threads place).priority = priority-set k.threads place place t refl in
     let best : ready_above k.threads (thread_at k.threads place).priority ≡ false = not-true (ready_above k.threads (thread_at k.threads place).priority) (and-right (is_ready (thread_at k.threads place).status) (not (ready_above k.threads (thread_at k.threads place).priority)) found.passes) in
     record {
@@ -116,7 +126,7 @@ unfolding switched
 switched-survives kp k choices states h = switched-to kp (count (is_best k.threads) k.threads) k choices states h refl
 
 -- A thread leaves the processor in a state that fits how it leaves.
-pub leave-may : (kp : ℕ) (k : Kernel) (states : List State) (status : Status) (left : Left) (s : State) → MayLeave kp k states → (is_parked status ≡ true → fits_left left s ≡ true) → MayLeave kp (left_as status left k) (set states k.running s)
+pub leave-may : (kp : ℕ) (k : Kernel) (states : List State) (status : ThreadStatus) (left : Left) (s : State) → MayLeave kp k states → (is_parked status ≡ true → fits_left left s ≡ true) → MayLeave kp (left_as status left k) (set states k.running s)
 leave-may kp k states status left s h fit = record {
   fits = zip-set Fits k.threads states k.running (record (running_thread k) { status = status; left = left }) s h.fits fit;
   phase = h.phase;
@@ -125,12 +135,12 @@ leave-may kp k states status left s h fit = record {
   leaving = h.leaving;
 }
 
-pub left-survives : (kp : ℕ) (k : Kernel) (choices : List ℕ) (states : List State) (status : Status) (left : Left) (s : State) → MayLeave kp k states → (is_parked status ≡ true → fits_left left s ≡ true) → Survives kp (switched (left_as status left k) choices) (set states k.running s) []
+pub left-survives : (kp : ℕ) (k : Kernel) (choices : List ℕ) (states : List State) (status : ThreadStatus) (left : Left) (s : State) → MayLeave kp k states → (is_parked status ≡ true → fits_left left s ≡ true) → Survives kp (switched (left_as status left k) choices) (set states k.running s) []
 left-survives kp k choices states status left s h fit = switched-survives kp (left_as status left k) choices (set states k.running s) (leave-may kp k states status left s h fit)
 
 -- a reschedule, and what else happens where no thread is above
-rescheduled-by : (kp : ℕ) (b : Bool) (left : Left) (otherwise : Done) (k : Kernel) (choices : List ℕ) (states : List State) (s : State) → MayLeave kp k states → fits_left left s ≡ true → (b ≡ false → Survives kp otherwise (set states k.running s) []) → Survives kp (cond b (switched (left_as IsReady left k) choices) otherwise) (set states k.running s) []
-rescheduled-by kp true left otherwise k choices states s h fit else = left-survives kp k choices states IsReady left s h (λ e. fit)
+rescheduled-by : (kp : ℕ) (b : Bool) (left : Left) (otherwise : Done) (k : Kernel) (choices : List ℕ) (states : List State) (s : State) → MayLeave kp k states → fits_left left s ≡ true → (b ≡ false → Survives kp otherwise (set states k.running s) []) → Survives kp (cond b (switched (left_as Ready left k) choices) otherwise) (set states k.running s) []
+rescheduled-by kp true left otherwise k choices states s h fit else = left-survives kp k choices states Ready left s h (λ e. fit)
 rescheduled-by kp false left otherwise k choices states s h fit else = else refl
 
 pub rescheduled-survives : (kp : ℕ) (left : Left) (otherwise : Kernel → List ℕ → Done) (k : Kernel) (choices : List ℕ) (states : List State) (s : State) → MayLeave kp k states → fits_left left s ≡ true → (ready_above k.threads (running_thread k).priority ≡ false → Survives kp (otherwise k choices) (set states k.running s) []) → Survives kp (rescheduled left otherwise k choices) (set states k.running s) []

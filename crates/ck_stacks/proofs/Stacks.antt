@@ -18,10 +18,13 @@ use Rattle.ck_graph.specs.Flow.{Flow, point_at}
 use Rattle.ck_graph.specs.Walk.{Configuration, Reaches}
 use Rattle.ck_graph.specs.Steps.{kind_at}
 use Rattle.ck_graph.specs.Forbidden.{AreAlarms}
-use Rattle.ck_sound.specs.Kernel.{Request, Creates, first, later}
-use Rattle.ck_sound.specs.World.{Handler, Place, AtAct, MovesTo, Asks, kept_by}
-use Rattle.ck_sound.specs.Sound.{IsAllowed, IsNext, IsSource, LockOf, IsRestored, RestoredBy, after_outcome, entry_state}
+use Rattle.ck_sound.specs.Choices.{first, later}
+use Rattle.ck_sound.specs.Kernel.{Request, Creates}
 use Rattle.ck_sound.specs.Laws.{AreLaws}
+use Rattle.ck_sound.specs.Side.{Handler, Place, AtAct, MovesTo, Asks}
+use Rattle.ck_sound.specs.Sound.{IsSource, LockOf, IsRestored, RestoredBy}
+use Rattle.ck_sound.specs.SystemStates.{IsAllowed, IsNext, after_outcome, entry_state}
+use Rattle.ck_sound.specs.World.{kept_by}
 use Rattle.ck_sound.proofs.Worlds.{first-sound, after-sound, sound-no_bad_halt}
 use Rattle.ck_stacks.specs.BareStacks.{Stack, NoMemory, stack_of, start_of, place_by, place_of, along, moved_of, finished_of, is_thread_entry, creates_by, creates, any_request, restores, asked_at, Numbers, is_handler_entry, is_fast_root, source_of, handler_by, handler_of, bare_stacks}
 use Rattle.ck_stacks.specs.Projects.{IsProject}

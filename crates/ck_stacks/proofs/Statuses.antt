@@ -8,8 +8,9 @@ use Rattle.ck_base.specs.Act.{act}
 use Rattle.ck_base.specs.Counters.{status_of}
 use Rattle.ck_graph.specs.declared.entries.Root.{Root}
 use Rattle.ck_graph.specs.Flow.{Flow}
+use Rattle.ck_sound.specs.Sound.{LockOf}
+use Rattle.ck_sound.specs.SystemStates.{IsNext, after_outcome}
 use Rattle.ck_sound.specs.World.{kept_by}
-use Rattle.ck_sound.specs.Sound.{LockOf, IsNext, after_outcome}
 use Rattle.ck_stacks.specs.BareStacks.{Stack, Numbers, bare_stacks}
 use Rattle.ck_stacks.specs.Promise.{KeepsStatus}
 

@@ -13,8 +13,11 @@ use Rattle.ck_graph.specs.declared.entries.Root.{Root}
 use Rattle.ck_graph.specs.Flow.{Flow, point_at}
 use Rattle.ck_graph.specs.Walk.{Frame, Configuration, names_target, start}
 use Rattle.ck_graph.specs.Steps.{first_of}
-use Rattle.ck_sound.specs.Kernel.{Source, Nothing, Creates, SetsPriority, Restores, first, later, odd}
-use Rattle.ck_sound.specs.World.{Side, Handler, Place, AtAct, AtEnd, Between, MovesTo, Asked, Asks, AskFails}
+use Rattle.ck_sound.specs.declared.stops.Undefined.TheVariants.{WrongCall, Uninitialised}
+use Rattle.ck_sound.specs.declared.kernel.Source.{Source}
+use Rattle.ck_sound.specs.Choices.{first, later, odd}
+use Rattle.ck_sound.specs.Kernel.{Nothing, Creates, SetsPriority, Restores}
+use Rattle.ck_sound.specs.Side.{Side, Handler, Place, AtAct, AtEnd, Between, MovesTo, Asked, Asks, AskFails}
 
 -- the points of the frames, the top one apart, and the status that the last chSysGetStatusAndLockX gave, if any
 pub record Stack : Type 0 where
@@ -82,11 +85,11 @@ is_thread_entry _ = false
 abbrev pub creates_by : Bool → Stack → List ℕ → Asked Stack
 creates_by true stack choices =
     Asks (Creates stack (first choices) (odd (first (later choices)))) (later (later choices))
-creates_by false stack choices = AskFails 5
+creates_by false stack choices = AskFails WrongCall
 
 -- a thread of a root, where it is a thread's
 abbrev pub creates : Flow → Option Root → List ℕ → Asked Stack
-creates flow None choices = AskFails 5
+creates flow None choices = AskFails WrongCall
 creates flow (Some root) choices = creates_by (is_thread_entry root.entry) (start_of flow root) choices
 
 -- nothing, a thread of the root that the next choice names, or the next choice as a priority
@@ -97,7 +100,7 @@ any_request flow roots (suc (suc n)) choices = Asks (SetsPriority (first choices
 
 -- chSysRestoreStatusX is given the kept status; where there is none, it is a pointer or a number without a value
 abbrev pub restores : Option Bool → List ℕ → Asked Stack
-restores None choices = AskFails 8
+restores None choices = AskFails Uninitialised
 restores (Some locked) choices = Asks (Restores locked) choices
 
 abbrev pub asked_at : Flow → List Root → Place → Option Bool → List ℕ → Asked Stack

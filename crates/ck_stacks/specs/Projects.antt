@@ -8,7 +8,7 @@ use Rattle.ck_graph.specs.declared.points.ActName.{ActName}
 use Rattle.ck_graph.specs.declared.entries.Root.{Root}
 use Rattle.ck_graph.specs.Flow.{Flow}
 use Rattle.ck_graph.specs.Steps.{kind_at, HasEdge}
-use Rattle.ck_sound.specs.Sound.{entry_state}
+use Rattle.ck_sound.specs.SystemStates.{entry_state}
 use Rattle.ck_stacks.specs.BareStacks.{Numbers, is_thread_entry, is_handler_entry, is_fast_root}
 
 -- a thread starts in TN, a fast handler in FF and any other in HB

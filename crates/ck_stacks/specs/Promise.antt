@@ -7,8 +7,8 @@ use Rattle.ck_graph.specs.declared.entries.Root.{Root}
 use Rattle.ck_graph.specs.Flow.{Flow}
 use Rattle.ck_graph.specs.Walk.{Configuration, Reaches}
 use Rattle.ck_graph.specs.Forbidden.{AreAlarms}
-use Rattle.ck_sound.specs.World.{World, Event, after, first_world, IsNoBadHalt}
 use Rattle.ck_sound.specs.Laws.{IsSoundWorld}
+use Rattle.ck_sound.specs.World.{World, Event, after, first_world, IsNoBadHalt}
 use Rattle.ck_stacks.specs.BareStacks.{Stack, NoMemory, stack_of, start_of, Numbers, bare_stacks}
 use Rattle.ck_stacks.specs.Projects.{IsProject}
 
