@@ -1,4 +1,5 @@
--- What each act does to the kernel's part of the world, once its check is passed: `effect`, at the end, has a line an op.
+-- What each act does to the kernel's part of the world, once its check is passed: `effect`, at the end, has a line for
+-- each op.
 use Rattle.std.specs.Prelude.{ℕ, zero, suc, ◌+◌, ◌-◌, min, Bool, true, false, not, ◌&&◌, ◌||◌, if◌then◌else◌, List, [], ◌∷◌, ◌++◌, Option, Some, None, slice_set}
 use Rattle.ck_base.specs.declared.ops.Op.{Op}
 use Rattle.ck_base.specs.declared.ops.Op.TheVariants.{Init, Halt, Disable, Suspend, Enable, Lock, Unlock, LockIsr, UnlockIsr, Prologue, Epilogue, IQuiet, IWakes, SPlain, SWakes, SSettles, Normal, ExitNormal, ExitS, Free, Neutral, HandlerReturn, GetStatus, RestoreStatus, PairEnter, PairLeft}
@@ -74,8 +75,8 @@ abbrev pub s_settles : Kernel → List ℕ → Done
 s_settles k choices =
     if odd (first choices) then blocked InSCall k (later choices) else rescheduled InSCall goes k (later choices)
 
--- The normal class: the critical section is entered, what the act asks for is made, the act wakes; an odd choice blocks,
--- any other reschedules; without a switch, the caller makes the unlock check.
+-- The normal class: the critical section is entered, what the act asks for is made, the act wakes; an odd choice
+-- blocks, any other reschedules; without a switch, the caller makes the unlock check.
 abbrev pub n_settles : Kernel → List ℕ → Done
 n_settles k choices =
     if odd (first choices)
@@ -111,8 +112,8 @@ takes_turns k choices =
     then switched (left_as Ready Preempted k) (later choices)
     else goes k choices
 
--- HandlerReturn pops the handler. Where `leaving` isn't set or this isn't the outermost regular handler, it does no more.
--- Else `leaving` is cleared, and the machine reschedules or lets equals take turns.
+-- HandlerReturn pops the handler. Where `leaving` isn't set or this isn't the outermost regular handler, it does no
+-- more. Else `leaving` is cleared, and the machine reschedules or lets equals take turns.
 abbrev pub returned_by : Bool → Kernel → List ℕ → Done
 returned_by true k choices = rescheduled Preempted takes_turns (record k { leaving = false }) choices
 returned_by false k choices = goes k choices

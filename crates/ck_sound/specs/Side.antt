@@ -26,8 +26,8 @@ pub record Handler (C : Type 0) : Type 0 where
   pub source : Source
   pub stack : C
 
--- Where a stack is, one move of it, what its act asks, the effect of an act that is done on memory and stack, the handlers
--- by the numbers of their roots, and the top frame with a status that it keeps, where true stands for "locked".
+-- Where a stack is, one move of it, what its act asks, the effect of an act that is done on memory and stack, the
+-- handlers by the numbers of their roots, and the top frame with a status that it keeps: true stands for "locked".
 pub record Side (M C : Type 0) : Type 0 where
   pub place : C → Place
   pub moved : M → C → List ℕ → Moved M C

@@ -32,7 +32,8 @@ started k place = record k {
   running = place;
 }
 
--- A thread that left in an S-class call goes on locked. Any other makes the unlock check and leaves the critical section.
+-- A thread that left in an S-class call goes on locked. Any other makes the unlock check and leaves the critical
+-- section.
 abbrev pub goes_on : Left → Kernel → List ℕ → Done
 goes_on InSCall k choices = goes k choices
 goes_on _ k choices = unlocked_at true k choices

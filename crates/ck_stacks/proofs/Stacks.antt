@@ -94,7 +94,8 @@ module _ (flow : Flow) (roots : List Root) (numbers : Numbers) (main : Root) (pr
       Is (finished_of flow (stack_of status c)) (after_outcome (act op c.state) c.state)
   finishes-edge c status op edge o is e h =
       subst
-      (λ o. Is (unwrap_or (option_map (along (stack_of status c)) o) (stack_of status c)) (after_outcome (act op c.state) c.state))
+      (λ o. Is (unwrap_or (option_map (along (stack_of status c)) o) (stack_of status c))
+          (after_outcome (act op c.state) c.state))
       (sym (is ∙ e)) h
 
   finishes-at : (c : Configuration) (status : Option Bool) (op : Op) (lock : ℕ) →
@@ -109,7 +110,8 @@ module _ (flow : Flow) (roots : List Root) (numbers : Numbers) (main : Root) (pr
 
   finishes-on : (stack : Stack) (state : State) (op : Op) (lock : ℕ) → Is stack state →
       place_of flow stack ≡ AtAct op → LockOf op state lock → IsNext (act op state) →
-      Is (finished_of flow (kept_by (bare_stacks flow roots numbers) op lock stack)) (after_outcome (act op state) state)
+      Is (finished_of flow (kept_by (bare_stacks flow roots numbers) op lock stack))
+      (after_outcome (act op state) state)
   finishes-on stack state op lock h is is_lock next =
       let c : Configuration = h.c in
       let kept : Option Bool = status_kept op lock stack.status in
@@ -123,7 +125,8 @@ module _ (flow : Flow) (roots : List Root) (numbers : Numbers) (main : Root) (pr
       root.start ≡ state → KeepsStatus (status_of state) None → Is (start_of flow root) state
   covered-root number root state e is keeps = starts flow roots root state (contains-get roots number root e) is keeps
 
-  created : (number : ℕ) (root : Root) (b : Bool) (choices left : List ℕ) (new : Stack) (priority : ℕ) (suspended : Bool) →
+  created :
+      (number : ℕ) (root : Root) (b : Bool) (choices left : List ℕ) (new : Stack) (priority : ℕ) (suspended : Bool) →
       slice_get roots number ≡ Some root → is_thread_entry root.entry ≡ b →
       creates_by b (start_of flow root) choices ≡ Asks (Creates new priority suspended) left → Is new TN
   created number root false choices left new priority suspended e is asks = absurd (cc)
@@ -149,7 +152,8 @@ module _ (flow : Flow) (roots : List Root) (numbers : Numbers) (main : Root) (pr
   restores-none None choices left new priority suspended e = absurd (cc)
   restores-none (Some locked) choices left new priority suspended e = absurd (cc)
 
-  asks-create : (place : Place) (status : Option Bool) (choices left : List ℕ) (new : Stack) (priority : ℕ) (suspended : Bool) →
+  asks-create :
+      (place : Place) (status : Option Bool) (choices left : List ℕ) (new : Stack) (priority : ℕ) (suspended : Bool) →
       asked_at flow roots place status choices ≡ Asks (Creates new priority suspended) left → Is new TN
   asks-create (AtAct RestoreStatus) status choices left new priority suspended e =
       restores-none status choices left new priority suspended e
@@ -187,7 +191,9 @@ module _ (flow : Flow) (roots : List Root) (numbers : Numbers) (main : Root) (pr
       let same : entry ≡ h = cc in
       subst (IsEntry number) same (record {
         source = refl;
-        covers = covered-root number root (entry_state fast) e ((project.each_root number root e).handler is) (entry-keeps fast);
+        covers =
+            covered-root number root (entry_state fast) e ((project.each_root number root e).handler is)
+            (entry-keeps fast);
       })
 
   entry-of : (number : ℕ) (o : Option Root) (h : Handler Stack) → slice_get roots number ≡ o →
@@ -221,8 +227,10 @@ pub stays-sound : StaysSound
 stays-sound flow roots numbers main project none events =
     let laws : AreLaws numbers.kernel_priority (bare_stacks flow roots numbers) Within (Covers flow roots) =
     stacks-laws flow roots numbers main project none in
-    after-sound numbers.kernel_priority (bare_stacks flow roots numbers) Within (Covers flow roots) laws (start_world flow main) events
-    (first-sound numbers.kernel_priority (bare_stacks flow roots numbers) Within (Covers flow roots) laws (record {}) (start_of flow main) tt
+    after-sound numbers.kernel_priority (bare_stacks flow roots numbers) Within (Covers flow roots) laws
+    (start_world flow main) events
+    (first-sound numbers.kernel_priority (bare_stacks flow roots numbers) Within (Covers flow roots) laws (record {})
+        (start_of flow main) tt
     (starts flow roots main TI project.main_listed project.main_start tt))
 
 pub no-bad_halt : NoBadHalt

@@ -20,12 +20,14 @@ status_kept GetStatus zero status = Some false
 status_kept GetStatus (suc lock) status = Some true
 status_kept _ lock status = status
 
-pub kept-is : (flow : Flow) (roots : List Root) (numbers : Numbers) (op : Op) (lock : ℕ) (stack : Stack) → kept_by (bare_stacks flow roots numbers) op lock stack ≡ record stack { status = status_kept op lock stack.status }
+pub kept-is : (flow : Flow) (roots : List Root) (numbers : Numbers) (op : Op) (lock : ℕ) (stack : Stack) →
+    kept_by (bare_stacks flow roots numbers) op lock stack ≡ record stack { status = status_kept op lock stack.status }
 kept-is flow roots numbers GetStatus zero stack = refl
 kept-is flow roots numbers GetStatus (suc lock) stack = refl
 kept-is flow roots numbers _ lock stack = refl
 
-pub keeps-status : (op : Op) (s : State) (lock : ℕ) (kept : Option Bool) → LockOf op s lock → IsNext (act op s) → KeepsStatus (status_of s) kept → KeepsStatus (status_of (after_outcome (act op s) s)) (status_kept op lock kept)
+pub keeps-status : (op : Op) (s : State) (lock : ℕ) (kept : Option Bool) → LockOf op s lock → IsNext (act op s) →
+    KeepsStatus (status_of s) kept → KeepsStatus (status_of (after_outcome (act op s) s)) (status_kept op lock kept)
 keeps-status GetStatus TN zero kept l n h = refl
 keeps-status GetStatus HO zero kept l n h = refl
 keeps-status GetStatus TL (suc lock) kept l n h = refl

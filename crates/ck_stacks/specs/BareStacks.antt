@@ -1,6 +1,6 @@
 -- Bare stacks, the widest C side that there is. A context is the points of its frames and the status of its last
 -- chSysGetStatusAndLockX; there is no data. The choices of an event say which of the moves of a walk is made, and what
--- an act asks of the kernel, whatever the call is: nothing, a thread of any root with any priority, or another priority.
+-- an act asks of the kernel, whatever the call is: nothing, a thread of any root with any priority, or a priority.
 use Rattle.std.specs.Prelude.{ℕ, zero, suc, Bool, true, false, if◌then◌else◌, nat_lt, List, [], ◌∷◌, map, Option, Some, None, option_map, slice_get}
 use Rattle.std.specs.Option.{unwrap_or}
 use Rattle.ck_base.specs.declared.ops.Op.TheVariants.{RestoreStatus}
@@ -59,7 +59,8 @@ entered flow stack target = record stack { top = first_of flow target; below = s
 abbrev pub returned : Flow → Option Bool → List ℕ → Option Stack
 returned flow status [] = None
 returned flow status (caller ∷ below) =
-    option_map (along (record { top = caller; below = below; status = status })) (slice_get (point_at flow caller).edges 0)
+    option_map (along (record { top = caller; below = below; status = status }))
+    (slice_get (point_at flow caller).edges 0)
 
 -- the stack after the move of a walk that a choice names: an edge by its place, a target by its number
 abbrev pub moved_by : Flow → PointKind → Stack → ℕ → Option Stack
@@ -126,7 +127,8 @@ source_of numbers number = record { fast = is_fast_root numbers number; priority
 
 -- the handler of a root, where it is one
 abbrev pub handler_by : Bool → Flow → Numbers → ℕ → Root → Option (Handler Stack)
-handler_by true flow numbers number root = Some (record { source = source_of numbers number; stack = start_of flow root })
+handler_by true flow numbers number root =
+    Some (record { source = source_of numbers number; stack = start_of flow root })
 handler_by false flow numbers number root = None
 
 abbrev pub handler_of : Flow → Numbers → ℕ → Option Root → Option (Handler Stack)
