@@ -15,7 +15,7 @@ use Rattle.ck_sound.specs.Choices.{first, later}
 use Rattle.ck_sound.specs.Kernel.{Kernel, Done, running_thread, checked}
 use Rattle.ck_sound.specs.Sound.{Fits, is_parked, fits_left, AreLinked, Holds, Survives}
 use Rattle.ck_sound.specs.Switch.{unlocked, unlocked_by, unlocked_at, started, goes_on, switched, switched_to, left_as, rescheduled}
-use Rattle.ck_sound.specs.SystemStates.{is_thread, in_zone, is_normal, locked, phase_of}
+use Rattle.ck_sound.specs.SystemStates.{is_thread, in_section, is_normal, locked, phase_of}
 use Rattle.ck_sound.specs.Threads.{is_ready, is_best, ready_above, count, nth_place, thread_at, no_thread}
 use Rattle.ck_sound.specs.declared.kernel.Phase.TheVariants as in_phase
 use Rattle.ck_sound.proofs.Lists.{zip-set, zip-set_left, zip-get}
@@ -35,7 +35,7 @@ record CanRun (s : State) : Type 0 where
   phase : in_phase.Normal ≡ phase_of s
   later : s ≡ TI → ⊥
 
-can-run_zone : (s : State) → in_zone s ≡ true → CanRun s
+can-run_zone : (s : State) → in_section s ≡ true → CanRun s
 can-run_zone TL e = record { thread = refl; phase = refl; later = λ f. cc }
 can-run_zone TP e = record { thread = refl; phase = refl; later = λ f. cc }
 can-run_zone XL e = record { thread = refl; phase = refl; later = λ f. cc }
@@ -43,7 +43,7 @@ can-run_zone NL e = record { thread = refl; phase = refl; later = λ f. cc }
 can-run_zone NP e = record { thread = refl; phase = refl; later = λ f. cc }
 can-run_zone _ e = absurd (cc)
 
-locked-zone : (s : State) → in_zone s ≡ true → 1 ≡ locked s
+locked-zone : (s : State) → in_section s ≡ true → 1 ≡ locked s
 locked-zone TL e = refl
 locked-zone TP e = refl
 locked-zone XL e = refl

@@ -129,11 +129,11 @@ abbrev pub checks_by : Option ℕ → (Kernel → List ℕ → Done) → Kernel 
 checks_by (Some n) rest k choices = stops (machine.Halt (Sv n) false) k choices
 checks_by None rest k choices = rest k choices
 
-abbrev pub enters_zone : Kernel → List ℕ → Done
-enters_zone k choices = goes (record k { lock_cnt = 1 }) choices
+abbrev pub enters_section : Kernel → List ℕ → Done
+enters_section k choices = goes (record k { lock_cnt = 1 }) choices
 
-abbrev pub leaves_zone : Kernel → List ℕ → Done
-leaves_zone k choices = goes (record k { lock_cnt = 0 }) choices
+abbrev pub leaves_section : Kernel → List ℕ → Done
+leaves_section k choices = goes (record k { lock_cnt = 0 }) choices
 
 abbrev pub reschedules : Kernel → List ℕ → Done
 reschedules k choices = rescheduled InNormalCall unlocked k choices
@@ -141,15 +141,15 @@ reschedules k choices = rescheduled InNormalCall unlocked k choices
 -- GetStatus with lock_cnt above 0 does nothing. With lock_cnt 0 it makes the check of SV#4 in a thread and of SV#6 in a
 -- handler, and enters the critical section.
 abbrev pub gets_status : ℕ → List Source → Kernel → List ℕ → Done
-gets_status zero [] k choices = checks_by (checked k Lock) enters_zone k choices
-gets_status zero (h ∷ handlers) k choices = checks_by (checked k LockIsr) enters_zone k choices
+gets_status zero [] k choices = checks_by (checked k Lock) enters_section k choices
+gets_status zero (h ∷ handlers) k choices = checks_by (checked k LockIsr) enters_section k choices
 gets_status (suc n) handlers k choices = goes k choices
 
 -- In a thread the check of SV#11 is made and the machine reschedules, as after a call of the normal class. In a handler
 -- the check of SV#7 is made and the critical section is left.
 abbrev pub unlocks : List Source → Kernel → List ℕ → Done
 unlocks [] k choices = checks_by (checked k SSettles) reschedules k choices
-unlocks (h ∷ handlers) k choices = checks_by (checked k UnlockIsr) leaves_zone k choices
+unlocks (h ∷ handlers) k choices = checks_by (checked k UnlockIsr) leaves_section k choices
 
 -- RestoreStatus with "locked" does nothing, with "unlocked" it unlocks.
 abbrev pub restores : {C : Type 0} → Request C → Kernel → List ℕ → Done

@@ -17,13 +17,13 @@ phase_allows fast in_phase.Suspended = fast
 phase_allows fast _ = false
 
 -- for a regular one, lock_cnt is 0 and `leaving` isn't set
-abbrev pub zone_allows : Bool → Kernel → Bool
-zone_allows true k = true
-zone_allows false k = (k.lock_cnt == 0) && not k.leaving
+abbrev pub section_allows : Bool → Kernel → Bool
+section_allows true k = true
+section_allows false k = (k.lock_cnt == 0) && not k.leaving
 
 abbrev pub may_enter : Source → Kernel → Bool
 may_enter source k =
-    is_below_top source.priority k.handlers && (phase_allows source.fast k.phase && zone_allows source.fast k)
+    is_below_top source.priority k.handlers && (phase_allows source.fast k.phase && section_allows source.fast k)
 
 -- the handler is on top
 abbrev pub entered : Source → Kernel → Kernel

@@ -40,13 +40,13 @@ is_normal TN = true
 is_normal _ = false
 
 -- a thread in its critical section
-abbrev pub in_zone : State → Bool
-in_zone TL = true
-in_zone TP = true
-in_zone XL = true
-in_zone NL = true
-in_zone NP = true
-in_zone _ = false
+abbrev pub in_section : State → Bool
+in_section TL = true
+in_section TP = true
+in_section XL = true
+in_section NL = true
+in_section NP = true
+in_section _ = false
 
 -- a reschedule is due
 abbrev pub is_due : State → Bool
@@ -94,15 +94,15 @@ is_empty [] = true
 is_empty (s ∷ states) = false
 
 -- what a handler below another may be in; the lowest isn't in HE
-abbrev pub may_lie : State → List State → Bool
-may_lie HB states = true
-may_lie HO states = true
-may_lie HE states = not (is_empty states)
-may_lie _ states = false
+abbrev pub may_be_below : State → List State → Bool
+may_be_below HB states = true
+may_be_below HO states = true
+may_be_below HE states = not (is_empty states)
+may_be_below _ states = false
 
 abbrev pub settled : List State → Bool
 settled [] = true
-settled (s ∷ states) = may_lie s states && settled states
+settled (s ∷ states) = may_be_below s states && settled states
 
 -- no regular handler is above a fast one, and those below the topmost regular one have settled
 abbrev pub is_nest : List State → Bool

@@ -62,7 +62,8 @@ restored-by OX (Some locked) request choices left keeps e = cc
 restored-by ON (Some locked) request choices left keeps e = cc
 restored-by _ (Some locked) request choices left keeps e = tt
 
-module _ (flow : Flow) (roots : List Root) (numbers : Numbers) (main : Root) (project : IsProject flow roots numbers main) (none : AreAlarms flow roots []) where
+module _ (flow : Flow) (roots : List Root) (numbers : Numbers) (main : Root)
+    (project : IsProject flow roots numbers main) (none : AreAlarms flow roots []) where
   abbrev Is : Stack → State → Type 0
   Is stack state = Covered flow roots stack state
 
