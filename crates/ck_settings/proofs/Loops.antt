@@ -23,7 +23,7 @@ module _ {X : Type 0} {Setting : Type 0} (seen : Setting → X) (step : List X �
   one_read : (settings before : List Setting) (values : List Value) (i : ℕ) (v : Value) → i < length values → before
       ≡ settings → v ≡ get_or values i v
       → rest settings values i ≡ (step (map seen before) (view v) >>= λ x. elements step (map seen before ++ x ∷ [])
-          (map view (drop (i + 1) values)))
+      (map view (drop (i + 1) values)))
   unfolding elements
   one_read settings before values i v lt same here = rw (drop_more values i v lt, ← here, same) refl
 
@@ -32,21 +32,21 @@ module _ {X : Type 0} {Setting : Type 0} (seen : Setting → X) (step : List X �
       (total : Result (List X) KeyFault)
       → i < length values → before ≡ settings → v ≡ get_or values i v → pushed ≡ settings ++ setting ∷ []
       → step (map seen before) (view v) ≡ Ok (seen setting) → rest settings values i ≡ total →
-          rest pushed values (i + 1) ≡ total
+      rest pushed values (i + 1) ≡ total
   goes_on settings before pushed values i v setting total lt same here more read so_far =
       let put : map seen before ++ seen setting ∷ []
-          ≡ map seen pushed = rw (same, more) (sym (map_last settings setting)) in
+      ≡ map seen pushed = rw (same, more) (sym (map_last settings setting)) in
       let one : rest settings values i ≡ elements step (map seen before ++ seen setting ∷ [])
-          (map view (drop (i + 1) values)) =
+      (map view (drop (i + 1) values)) =
       one_read settings before values i v lt same here ∙ ap
-          (λ r. r >>= λ x. elements step (map seen before ++ x ∷ []) (map view (drop (i + 1) values))) read in
+      (λ r. r >>= λ x. elements step (map seen before ++ x ∷ []) (map view (drop (i + 1) values))) read in
       ap (λ xs. elements step xs (map view (drop (i + 1) values))) (sym put) ∙ sym one ∙ so_far
 
   -- at a fault
   pub ends : (settings before : List Setting) (values : List Value) (i : ℕ) (v : Value) (e : ReadSettingsError)
       (total : Result (List X) KeyFault)
       → i < length values → before ≡ settings → v ≡ get_or values i v → Fails e (step (map seen before) (view v)) →
-          rest settings values i ≡ total → Fails e total
+      rest settings values i ≡ total → Fails e total
   ends settings before values i v errors.Memory total lt same here read so_far = tt
   ends settings before values i v (errors.Fault f) total lt same here read so_far =
       sym so_far ∙ one_read settings before values i v lt same here ∙ rw read refl

@@ -19,7 +19,7 @@ members-put k v (e ∷ es) = at (string_cmp k e.0) (members-put k v es) where
       ≡ put_member (string_bytes k) (view v) (members_view es) →
       members_view (match_ordering o ((k, v) ∷ e ∷ es) ((e.0, v) ∷ es) (e ∷ insert_entry string_cmp es k v))
       ≡ match_ordering o (member (string_bytes k) (view v) (members_view (e ∷ es)))
-          (member (string_bytes e.0) (view v) (members_view es))
+      (member (string_bytes e.0) (view v) (members_view es))
       (member (string_bytes e.0) (view e.1) (put_member (string_bytes k) (view v) (members_view es)))
   at Less rest = refl
   at Equal rest = refl
@@ -29,7 +29,7 @@ members-put k v (e ∷ es) = at (string_cmp k e.0) (members-put k v es) where
 pub all_tables : {S X : Type 0} (seen : S → X) (members : X → Members) (values : List Value) (settings : List S) (i : ℕ)
     → length settings ≤ i →
     map view values ≡ map (λ s. table (members (seen s))) (take i settings) → array (items_of (map view values))
-        ≡ tables members (map seen settings)
+    ≡ tables members (map seen settings)
 all_tables seen members values settings i end so_far =
     let every : take i settings ≡ settings = take_all i settings end in
     rw (so_far, every, map-map (λ x. table (members x)) seen settings) refl

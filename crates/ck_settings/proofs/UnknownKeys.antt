@@ -63,13 +63,13 @@ first_unknown known key rest other = rw other refl
 pub refused : (prefix : List ℕ) (keys : List (Bor (List ℕ))) (es : List Entry) (key : String Global)
     (rest : List (String Global)) (e : ReadSettingsError)
     → IsStrictlySortedBy string_cmp (keys_of es) → unknown_of (texts keys) (key ∷ rest)
-        ≡ unknown_of (texts keys) (keys_of es)
+    ≡ unknown_of (texts keys) (keys_of es)
     → list_any (λ k. bytes_eq k.now (string_bytes key)) keys ≡ false
     → IsFault e (unknown_fault prefix (string_bytes key)) → Fails e (only prefix (texts keys) (members_view es))
 refused prefix keys es key rest errors.Memory sorted same other fault = tt
 refused prefix keys es key rest (errors.Fault g) sorted same other fault =
     let all : in_byte_order (unknown_keys (texts keys) (members_view es))
-        ≡ string_bytes key ∷ unknown_of (texts keys) rest =
+    ≡ string_bytes key ∷ unknown_of (texts keys) rest =
     ap in_byte_order (unknown_keys_of (texts keys) es) ∙ already_in_order (texts keys) (keys_of es) sorted ∙ sym same
     ∙ first_unknown (texts keys) key rest (is_among_texts keys (string_bytes key) ∙ other) in
     rw all (ap Err fault)

@@ -83,7 +83,7 @@ op_of_class word wakes =
     (chosen (bytes_eq word (codes "I")) _ _ (chosen wakes (Some IWakes) (Some IQuiet) refl refl)
     (chosen (bytes_eq word (codes "S")) _ _ (chosen wakes (Some SWakes) (Some SPlain) refl refl)
     (chosen (bytes_eq word (codes "X")) (cond wakes None (Some Free)) None (chosen wakes None (Some Free) refl refl)
-        refl))))
+    refl))))
 
 -- ---- elements
 
@@ -103,7 +103,7 @@ module _ {X : Type 0} (kernel : ℕ) (list : ListRow) (value : Members → X) wh
   all_clean P h before [] e = tt
   all_clean P h before (d ∷ ds) e =
       let (here, more) = none_in (element_faults kernel list before (as_table d))
-          (elements_faults kernel list (before ++ d ∷ []) ds) e in
+      (elements_faults kernel list (before ++ d ∷ []) ds) e in
       (one_clean (λ _. P) h before (as_table d) here, all_clean P h (before ++ d ∷ []) ds more)
 
   abbrev pub New : (X → X → Bool) → List Data → X → Type 0
@@ -115,7 +115,7 @@ module _ {X : Type 0} (kernel : ℕ) (list : ListRow) (value : Members → X) wh
   all_new same h before [] e = tt
   all_new same h before (d ∷ ds) e =
       let (here, more) = none_in (element_faults kernel list before (as_table d))
-          (elements_faults kernel list (before ++ d ∷ []) ds) e in
+      (elements_faults kernel list (before ++ d ∷ []) ds) e in
       let rest = all_new same h (before ++ d ∷ []) ds more in (
         one_clean (New same) h before (as_table d) here,
         subst (λ (xs : List X). AllNew same xs (map (λ d. value (members_in d)) ds))
@@ -125,22 +125,24 @@ module _ {X : Type 0} (kernel : ℕ) (list : ListRow) (value : Members → X) wh
   -- the parts of a table's faults
   pub parts : (before : List Data) (ms : Members) → table_faults kernel list before ms ≡ []
       → (rows_faults (element_prefix list.key (length before + 1)) kernel list.fields ms ≡ []) ×
-          (list_any (says_the_same list.same ms) before ≡ false)
+      (list_any (says_the_same list.same ms) before ≡ false)
   parts before ms e =
       let prefix = element_prefix list.key (length before + 1) in
       let (_, rest) = none_in (unknown_faults prefix (map (λ r. r.key) list.fields) ms)
-          (rows_faults prefix kernel list.fields ms ++ repetition_faults prefix list.same before ms) e in
+      (rows_faults prefix kernel list.fields ms ++ repetition_faults prefix list.same before ms) e in
       let (rows, again) = none_in (rows_faults prefix kernel list.fields ms)
-          (repetition_faults prefix list.same before ms) rest in
-      (rows, not_held (list_any (says_the_same list.same ms) before)
-          (held _ _ (not (list_any (says_the_same list.same ms) before)) again))
+      (repetition_faults prefix list.same before ms) rest in (
+        rows,
+        not_held (list_any (says_the_same list.same ms) before)
+            (held _ _ (not (list_any (says_the_same list.same ms) before)) again),
+      )
 
   -- the elements of a list without a fault
   pub listed : (ms : Members) → list_faults kernel list ms ≡ [] →
       (room_faults list.key list.room ms ≡ []) × (elements_faults kernel list [] (elements_at list.key ms) ≡ [])
   listed ms e =
       let (_, rest) = none_in (list_type_faults list.key (get_member list.key ms))
-          (room_faults list.key list.room ms ++ elements_faults kernel list [] (elements_at list.key ms)) e in
+      (room_faults list.key list.room ms ++ elements_faults kernel list [] (elements_at list.key ms)) e in
       none_in (room_faults list.key list.room ms) (elements_faults kernel list [] (elements_at list.key ms)) rest
 
 vector_clean : (kernel : ℕ) → Clean kernel vector_list vector_of (λ _. IsVector)
@@ -149,7 +151,7 @@ vector_clean kernel before ms e =
     let (rows, _) = parts kernel vector_list vector_of before ms e in
     let (function, rest) = none_in (row_faults prefix kernel (row (codes "function") Needed Text) ms) _ rows in
     let (priority, _) = none_in (row_faults prefix kernel (row (codes "priority") Needed (Number (From 0) 255)) ms) _
-        rest in
+    rest in
     record {
       function = passed (prefix ++ codes "function") is_some_text (get_member (codes "function") ms) function;
       priority = (number_there (prefix ++ codes "priority") 0 255 (get_member (codes "priority") ms) priority).1;
@@ -159,7 +161,7 @@ vector_new : (kernel : ℕ) → Clean kernel vector_list vector_of (New kernel v
 vector_new kernel before ms e =
     let (_, again) = parts kernel vector_list vector_of before ms e in
     repeats (same_vector (vector_of ms)) (λ d. vector_of (members_in d)) vector_list.same before ms (λ e. and_true _) ∙
-        again
+    again
 
 not_locked : (version : ℕ) (b : Bool) → version ≡ 1 → (has_locked version && b) ≡ false
 not_locked version b e = rw e refl
@@ -172,7 +174,7 @@ callback_clean version kernel before ms e =
     let (of_struct, more) = none_in (row_faults prefix kernel (row (codes "struct") Needed Text) ms) _ rows in
     let (member, rest) = none_in (row_faults prefix kernel (row (codes "member") Needed Text) ms) _ more in
     let (priority, _) = none_in (row_faults prefix kernel (row (codes "priority") Needed (Number FromKernel 255)) ms) _
-        rest in
+    rest in
     record {
       of_struct = passed (prefix ++ codes "struct") is_some_text (get_member (codes "struct") ms) of_struct;
       member = passed (prefix ++ codes "member") is_some_text (get_member (codes "member") ms) member;
@@ -186,7 +188,7 @@ callback_new : (locked : Bool) (kernel : ℕ) →
 callback_new locked kernel before ms e =
     let (_, again) = parts kernel (callback_list locked) (callback_of locked) before ms e in
     repeats (same_callback (callback_of locked ms)) (λ d. callback_of locked (members_in d)) (callback_list locked).same
-        before ms (λ e. two_and_true _ _) ∙ again
+    before ms (λ e. two_and_true _ _) ∙ again
 
 function_clean : (kernel : ℕ) → Clean kernel function_list function_of (λ _. IsFunction)
 function_clean kernel before ms e =
@@ -203,7 +205,7 @@ function_new : (kernel : ℕ) → Clean kernel function_list function_of
 function_new kernel before ms e =
     let (_, again) = parts kernel function_list function_of before ms e in
     repeats (same_function (function_of ms)) (λ d. function_of (members_in d)) function_list.same before ms
-        (λ e. and_true _) ∙ again
+    (λ e. and_true _) ∙ again
 
 -- ---- the document
 
@@ -219,11 +221,11 @@ document_valid ms e =
     let keys = document_rows (version_of ms) in
     let (_, rows) = none_in (unknown_faults [] (map key_of keys) ms) (document_rows_faults kernel keys ms) e in
     let (version, after_version) = none_in (row_faults [] kernel (row (codes "version") Needed (Number (From 1) 2)) ms)
-        _ rows in
+    _ rows in
     let (kernel_there, after_kernel) = none_in (row_faults [] kernel
-        (row (codes "kernel_priority") Needed (Number (From 0) 255)) ms) _ after_version in
+    (row (codes "kernel_priority") Needed (Number (From 0) 255)) ms) _ after_version in
     let (timer, after_timer) = none_in (row_faults [] kernel
-        (row (codes "timer_priority") Optional (Number FromKernel 255)) ms) _ after_kernel in
+    (row (codes "timer_priority") Optional (Number FromKernel 255)) ms) _ after_kernel in
     let (vectors, after_vectors) = none_in (list_faults kernel vector_list ms) _ after_timer in
     let (callbacks, after_callbacks) = none_in (list_faults kernel (callback_list locked) ms) _ after_vectors in
     let (functions, _) = none_in (list_faults kernel function_list ms) [] after_callbacks in
@@ -235,14 +237,17 @@ document_valid ms e =
     let known = number_there (codes "version") 1 2 (get_member (codes "version") ms) version in
     let least = number_there (codes "kernel_priority") 0 255 (get_member (codes "kernel_priority") ms) kernel_there in
     let count : length vs + length cs ≤ 240 = leb-true _ _
-        (held (codes "callback") OutOfRange (nat_le (length vs + length cs) 240) room) in
+    (held (codes "callback") OutOfRange (nat_le (length vs + length cs) 240) room) in
     record {
       version = one_or_two (version_of ms) known.0 known.1;
       kernel = least.1;
       timer = number_or_default (codes "timer_priority") kernel 255 (get_member (codes "timer_priority") ms) least.1
           timer;
-      handlers = rw (length-map vs (λ d. vector_of (members_in d)), length-map cs
-          (λ d. callback_of locked (members_in d))) count;
+      handlers = rw (
+        length-map vs (λ d. vector_of (members_in d)),
+        length-map cs
+            (λ d. callback_of locked (members_in d)),
+      ) count;
       vectors = all_clean kernel vector_list vector_of IsVector (vector_clean kernel) [] vs each_vector;
       callbacks = all_clean kernel (callback_list locked) (callback_of locked) (IsCallback (version_of ms) kernel)
           (callback_clean (version_of ms) kernel) [] cs each_callback;

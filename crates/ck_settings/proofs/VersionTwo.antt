@@ -70,14 +70,14 @@ module _ {X : Type 0} (members : X → Members) where
 vector_fine : (kernel : ℕ) → Fine vector_members kernel vector_list IsVector same_vector
 vector_fine kernel before x is new =
     let again = tested_tables vector_members (same_vector x) (says_the_same vector_list.same (vector_members x))
-        (λ y. sym (and_true _)) before ∙ new in
+    (λ y. sym (and_true _)) before ∙ new in
     rw (is.function, within 0 x.priority (omega arith) is.priority, again) refl
 
 callback_fine : (version kernel : ℕ) → Fine callback_members kernel (callback_list true) (IsCallback version kernel)
     same_callback
 callback_fine version kernel before x is new =
     let again = tested_tables callback_members (same_callback x)
-        (says_the_same (callback_list true).same (callback_members x)) (λ y. sym (two_and_true _ _)) before ∙ new in
+    (says_the_same (callback_list true).same (callback_members x)) (λ y. sym (two_and_true _ _)) before ∙ new in
     rw (is.of_struct, is.member, within kernel x.priority is.priority.0 is.priority.1, again) refl
 
 class_fine : (op : Op) → is_outside_op op ≡ true → is_class (class_of op) ≡ true
@@ -102,7 +102,7 @@ wakes_fine _ h = absurd (cc)
 function_fine : (kernel : ℕ) → Fine function_members kernel function_list IsFunction same_function
 function_fine kernel before x is new =
     let again = tested_tables function_members (same_function x) (says_the_same function_list.same (function_members x))
-        (λ y. sym (and_true _)) before ∙ new in
+    (λ y. sym (and_true _)) before ∙ new in
     rw (is.name, class_fine x.op is.op, wakes_fine x.op is.op, again) refl
 
 -- ---- the document
@@ -110,16 +110,16 @@ function_fine kernel before x is new =
 no_document_faults : (v : Values) → AreValid v → faults_of (upgraded_members v) ≡ []
 no_document_faults v is =
     let vectors = no_faults vector_members v.kernel_priority vector_list IsVector same_vector
-        (vector_fine v.kernel_priority) [] v.vectors is.vectors is.vectors_differ in
+    (vector_fine v.kernel_priority) [] v.vectors is.vectors is.vectors_differ in
     let callbacks = no_faults callback_members v.kernel_priority (callback_list true)
-        (IsCallback v.version v.kernel_priority) same_callback (callback_fine v.version v.kernel_priority) []
-        v.callbacks is.callbacks is.callbacks_differ in
+    (IsCallback v.version v.kernel_priority) same_callback (callback_fine v.version v.kernel_priority) []
+    v.callbacks is.callbacks is.callbacks_differ in
     let functions = no_faults function_members v.kernel_priority function_list IsFunction same_function
-        (function_fine v.kernel_priority) [] v.functions is.functions is.functions_differ in
+    (function_fine v.kernel_priority) [] v.functions is.functions is.functions_differ in
     let room : nat_le (length (map (λ x. table (vector_members x)) v.vectors) + length
-        (map (λ x. table (callback_members x)) v.callbacks)) 240 ≡ true =
+    (map (λ x. table (callback_members x)) v.callbacks)) 240 ≡ true =
     rw (length-map v.vectors (λ x. table (vector_members x)), length-map v.callbacks (λ x. table (callback_members x)))
-        (le-leb _ 240 is.handlers) in
+    (le-leb _ 240 is.handlers) in
     rw (
       within 0 v.kernel_priority (omega arith) is.kernel,
       within v.kernel_priority v.timer_priority is.timer.0 is.timer.1,
@@ -139,7 +139,7 @@ document_values : (v : Values) → AreValid v → values_of (upgraded_members v)
 document_values v is =
     let vectors = written vector_members vector_of IsVector (λ x h. refl) v.vectors is.vectors in
     let callbacks = written callback_members (callback_of true) (IsCallback v.version v.kernel_priority) (λ x h. refl)
-        v.callbacks is.callbacks in
+    v.callbacks is.callbacks in
     let functions = written function_members function_of IsFunction function_back v.functions is.functions in
     rw (
       data_of-items (map (λ x. table (vector_members x)) v.vectors),

@@ -48,7 +48,7 @@ least = refl
 
 twice : read_members
     (parse_document
-    (codes "version = 1\nkernel_priority = 2\nvector = [{function = \"f\", priority = 4}, {function = \"f\", priority = 4}]"))
+    (codes "version = 1\nkernel_priority = 2\nvector = [{function=\"f\", priority=4}, {function=\"f\", priority=4}]"))
     ≡ Err (record { key = element_prefix (codes "vector") 2 ++ codes "function"; kind = Repeated })
 unfolding toml_on_literals
 twice = refl
@@ -68,8 +68,15 @@ wakes = refl
 waking : read_members
     (parse_document
     (codes "version = 1\nkernel_priority = 2\n[[function]]\nname = \"f\"\nclass = \"I\"\nwakes = true\n"))
-    ≡ Ok (record { version = 1; kernel_priority = 2; timer_priority = 2; vectors = []; callbacks = []; functions =
-        record { name = codes "f"; op = IWakes } ∷ [] })
+    ≡ Ok (record {
+      version = 1;
+      kernel_priority = 2;
+      timer_priority = 2;
+      vectors = [];
+      callbacks = [];
+      functions =
+          record { name = codes "f"; op = IWakes } ∷ [];
+    })
 unfolding toml_on_literals
 waking = refl
 

@@ -1,5 +1,5 @@
--- The table of keys: each key of rtcheck.toml, what its value has to be, and whether it is needed. The order of the rows
--- is the order in which faults are told. docs/SETTINGS.md, "The keys", has the same rows.
+-- The table of keys: each key of rtcheck.toml, what its value has to be, and whether it is needed. The order of the
+-- rows is the order in which faults are told. docs/SETTINGS.md, "The keys", has the same rows.
 use Rattle.std.specs.Prelude.{ℕ, ◌==◌, Bool, true, false, List, [], ◌∷◌, codes}
 
 -- the greatest priority of an interrupt
@@ -39,8 +39,8 @@ pub data Room : Type 0 where
   AnyNumber : Room
   Together : List ℕ → ℕ → Room
 
--- A key with a list of tables. Two elements whose texts at the keys of `same` are the same repeat each other, which is a
--- fault at the last of these keys.
+-- A key with a list of tables. Two elements whose texts at the keys of `same` are the same repeat each other, which is
+-- a fault at the last of these keys.
 pub record ListRow : Type 0 where
   pub key : List ℕ
   pub room : Room

@@ -1,5 +1,5 @@
--- The document of version 2 that says what some settings are, each key in its place in byte order. Private contracts alone
--- speak of it.
+-- The document of version 2 that says what some settings are, each key in its place in byte order. Private contracts
+-- alone speak of it.
 use Rattle.std.specs.Prelude.{ℕ, pos, Bool, true, false, List, codes, map}
 use Rattle.toml.specs.Data.{Data, string, integer, boolean, array, table, Members, no_members, member}
 use Rattle.std.specs.Ordering.{nat_cmp, match_ordering}

@@ -1,5 +1,5 @@
--- The settings that a document writes, with the defaults where a key is left out. They mean something where the document
--- has no fault (specs/Faults.antt).
+-- The settings that a document writes, with the defaults where a key is left out. They mean something where the
+-- document has no fault (specs/Faults.antt).
 use Rattle.std.specs.Prelude.{ℕ, ℤ, pos, negsuc, Bool, false, ◌&&◌, List, [], ◌∷◌, codes, map, string_bytes}
 use Rattle.std.specs.Option.{option_map_or}
 use Rattle.toml.specs.Data.{Data, Items, no_items, item, Members, no_members, get_member, as_str, as_integer, as_bool}

@@ -19,10 +19,10 @@ use Rattle.ck_settings.proofs.lists.callback_in.Goals as goal
 module _ (locked : Bool) (kernel : ℕ) (prefix : List ℕ) (before : List Callback) (ms : Members) where
   all_read : (x : Callback) → only prefix (fields_of (callback_list locked)) ms ≡ Ok (tt {0}) →
       text_where is_some_text prefix (codes "struct") ms ≡ Ok x.of_struct →
-          text_where is_some_text prefix (codes "member") ms ≡ Ok x.member →
+      text_where is_some_text prefix (codes "member") ms ≡ Ok x.member →
       number prefix kernel 255 (codes "priority") ms ≡ Ok x.priority → locked_read locked prefix ms ≡ Ok x.locked →
       callback locked kernel prefix before ms ≡ require (prefix ++ codes "member") Repeated
-          (not (list_any (has_member x.of_struct x.member) before)) x
+      (not (list_any (has_member x.of_struct x.member) before)) x
   unfolding callback
   all_read x keys of_struct member priority is_locked = rw (keys, of_struct, member, priority, is_locked) refl
 
@@ -43,13 +43,13 @@ returns-then-has_member c =
       locked = c.in_ok-locked.locked;
     } in
     let again = list_any_map (has_member x.of_struct x.member) callback_view c.args.before.now ∙ sym
-        c.has_member.ensures ∙ c.if-has_member.true in
+    c.has_member.ensures ∙ c.if-has_member.true in
     let read = all_read c.args.has_locked c.args.kernel_priority prefix before (table_view c.args.section.now.table.now)
-        x
+    x
     c.in_ok-only_callback_keys.ensures c.in_ok-of_struct.ensures c.in_ok-member.ensures c.in_ok-priority.ensures
-        c.in_ok-locked.ensures in
+    c.in_ok-locked.ensures in
     rw read (fails c.fault.result (prefix ++ codes "member") Repeated
-        (list_any (has_member x.of_struct x.member) before) x again c.fault.ensures)
+    (list_any (has_member x.of_struct x.member) before) x again c.fault.ensures)
 
 pub returns : goal.returns
 returns c =
@@ -62,11 +62,11 @@ returns c =
       locked = c.in_ok-locked.locked;
     } in
     let new = list_any_map (has_member x.of_struct x.member) callback_view c.args.before.now ∙ sym c.has_member.ensures
-        ∙ c.if-has_member.false in
+    ∙ c.if-has_member.false in
     let read = all_read c.args.has_locked c.args.kernel_priority prefix before (table_view c.args.section.now.table.now)
-        x
+    x
     c.in_ok-only_callback_keys.ensures c.in_ok-of_struct.ensures c.in_ok-member.ensures c.in_ok-priority.ensures
-        c.in_ok-locked.ensures in
+    c.in_ok-locked.ensures in
     let of_struct = c.in_ok-of_struct-2.ensures.ok in
     let member = c.in_ok-member-2.ensures.ok in
     rw (read, new, of_struct, member) refl

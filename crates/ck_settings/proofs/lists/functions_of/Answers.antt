@@ -10,20 +10,20 @@ pub returns-in_err-function : goal.returns-in_err-function
 returns-in_err-function c =
     let p = err_from_is_err_and c.from_residual.result c.from_residual.ensures.1 in
     rw (p.1, p.2) (ends function_view (element (codes "function") function) c.elements.functions.items
-        c.deref.result.now c.args.elements.now c.elements.element-index c.element-item.result
-        c.in_err-function.field-0.0 (function_elements (map view c.args.elements.now))
+    c.deref.result.now c.args.elements.now c.elements.element-index c.element-item.result
+    c.in_err-function.field-0.0 (function_elements (map view c.args.elements.now))
     c.elements-test.true c.deref.ensures.value c.element-item.is c.in_err-function.ensures c.elements.invariant)
 
 pub elements-preserved : goal.elements-preserved
 elements-preserved c =
     goes_on function_view (element (codes "function") function) c.elements.functions.items c.deref.result.now
-        c.push.new.self.items c.args.elements.now c.elements.element-index c.element-item.result
-        c.in_ok-function.function (function_elements (map view c.args.elements.now))
+    c.push.new.self.items c.args.elements.now c.elements.element-index c.element-item.result
+    c.in_ok-function.function (function_elements (map view c.args.elements.now))
     c.elements-test.true c.deref.ensures.value c.element-item.is c.in_ok-push.ensures.items c.in_ok-function.ensures
-        c.elements.invariant
+    c.elements.invariant
 
 pub returns : goal.returns
 returns c =
     is_done function_view (element (codes "function") function) c.elements.functions.items c.args.elements.now
-        c.elements.element-index (function_elements (map view c.args.elements.now)) c.elements-test.false
-        c.elements.invariant
+    c.elements.element-index (function_elements (map view c.args.elements.now)) c.elements-test.false
+    c.elements.invariant

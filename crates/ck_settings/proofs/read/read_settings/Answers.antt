@@ -7,5 +7,5 @@ use Rattle.ck_settings.proofs.read.read_settings.Goals as goal
 pub returns : goal.returns
 returns c =
     let reads : Gives settings_view c.settings_of_file.result (settings_of c.args.bytes.now) = rw
-        (← file_is c.args.bytes.now) c.settings_of_file.ensures in
+    (← file_is c.args.bytes.now) c.settings_of_file.ensures in
     record { reads = reads; valid = settings_valid c.args.bytes.now c.settings_of_file.result reads }

@@ -8,4 +8,4 @@ returns-in_default c = not_text c.args.bytes.now c.not_toml.result c.in_default.
 pub returns-in-Ok-table_from_str : goal.returns-in-Ok-table_from_str
 returns-in-Ok-table_from_str c =
     is_document c.args.bytes.now (table_view c.in-Ok-table_from_str.table) c.in-Ok.ensures.cases.1
-        (rw c.in-Ok.ensures.cases.0 at c.in-Ok-table_from_str.ensures.ok)
+    (rw c.in-Ok.ensures.cases.0 at c.in-Ok-table_from_str.ensures.ok)

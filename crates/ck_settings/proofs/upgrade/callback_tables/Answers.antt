@@ -9,4 +9,4 @@ pub returns : goal.returns
 returns c =
     view-Array c.settings.values
     ∙ all_tables callback_view callback_members c.settings.values.items c.args.callbacks.now c.settings.callback-index
-        c.settings-test.false c.settings.invariant
+    c.settings-test.false c.settings.invariant

@@ -9,4 +9,4 @@ pub returns : goal.returns
 returns c =
     view-Array c.settings.values
     ∙ all_tables function_view function_members c.settings.values.items c.args.functions.now c.settings.function-index
-        c.settings-test.false c.settings.invariant
+    c.settings-test.false c.settings.invariant

@@ -8,7 +8,7 @@ use Rattle.ck_settings.proofs.upgrade.upgraded.Goals as goal
 pub returns-in-Ok : goal.returns-in-Ok
 returns-in-Ok c =
     let written : c.into_bytes.result.items ≡ string_bytes c.in-Ok.text = ap (λ v. v.items)
-        c.into_bytes.ensures.value in
+    c.into_bytes.ensures.value in
     rw written (text_upgrades (settings_view c.args.settings.now) c.requires (string_bytes c.in-Ok.text)
-        (table_view c.in_ok-table.table)
+    (table_view c.in_ok-table.table)
     c.in_ok-table.ensures (IsUtf8-string_bytes c.in-Ok.text) c.in-Ok.ensures.reads_back)

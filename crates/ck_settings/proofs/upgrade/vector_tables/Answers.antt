@@ -9,4 +9,4 @@ pub returns : goal.returns
 returns c =
     view-Array c.settings.values
     ∙ all_tables vector_view vector_members c.settings.values.items c.args.vectors.now c.settings.vector-index
-        c.settings-test.false c.settings.invariant
+    c.settings-test.false c.settings.invariant

@@ -15,11 +15,11 @@ returns-then-not-is_known c =
     let key = c.in-Some.key.now in
     let iterator : c.members.key-iterator ≡ key ∷ c.next.new.self = grind (arith, common_steps) in
     let unknown : list_any (λ k. bytes_eq k.now (string_bytes key)) keys
-        ≡ false = rw c.deref.ensures at (sym c.is_known.ensures ∙ c.if-not-is_known.true) in
+    ≡ false = rw c.deref.ensures at (sym c.is_known.ensures ∙ c.if-not-is_known.true) in
     let fault : IsFault c.fault.result (unknown_fault (prefix_of c.args.self.now.place) (string_bytes key)) = rw
-        c.deref-then-not-is_known.ensures at c.fault.ensures in
+    c.deref-then-not-is_known.ensures at c.fault.ensures in
     refused (prefix_of c.args.self.now.place) keys c.args.self.now.table.now.entries key c.next.new.self c.fault.result
-        c.keys-key-items.ensures.ordered (rw iterator at same) unknown fault
+    c.keys-key-items.ensures.ordered (rw iterator at same) unknown fault
 
 pub members-preserved : goal.members-preserved
 members-preserved c =
@@ -28,7 +28,7 @@ members-preserved c =
     let key = c.in-Some.key.now in
     let iterator : c.members.key-iterator ≡ key ∷ c.next.new.self = grind (arith, common_steps) in
     let known : list_any (λ k. bytes_eq k.now (string_bytes key)) keys
-        ≡ true = rw c.deref.ensures at (sym c.is_known.ensures ∙ c.if-not-is_known.false) in
+    ≡ true = rw c.deref.ensures at (sym c.is_known.ensures ∙ c.if-not-is_known.false) in
     (tt, tt, sym (rw (iterator, is_among_texts keys (string_bytes key), known) refl) ∙ same)
 
 pub returns : goal.returns
