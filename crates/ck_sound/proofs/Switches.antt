@@ -65,11 +65,11 @@ started-holds : (kp : ℕ) (k : Kernel) (states : List State) (place : ℕ) (s :
 started-holds kp k states place s lock h found here can is_lock =
     let t : Thread = record (thread_at k.threads place) { status = Running } in
     let same : (thread_at (set k.threads place t) place).priority ≡ (thread_at k.threads place).priority =
-        priority-set k.threads place place t refl in
+    priority-set k.threads place place t refl in
     let best : ready_above k.threads (thread_at k.threads place).priority ≡ false =
-        not-true (ready_above k.threads (thread_at k.threads place).priority)
-        (and-right (is_ready (thread_at k.threads place).status)
-            (not (ready_above k.threads (thread_at k.threads place).priority)) found.passes) in
+    not-true (ready_above k.threads (thread_at k.threads place).priority)
+    (and-right (is_ready (thread_at k.threads place).status)
+    (not (ready_above k.threads (thread_at k.threads place).priority)) found.passes) in
     record {
       there = omega (arith, found.within, length_set k.threads place t);
       is_now = here;
@@ -96,7 +96,7 @@ checked-by op k isr lock e f = ap₂ (λ i l. halt_of op (counters (pos i) (pos 
 
 unlocked-by :
     (kp : ℕ) (at : Bool) (o : Option ℕ) (b : Bool) (k : Kernel) (choices : List ℕ) (states : List State) (s : State)
-        (nest : List State) →
+    (nest : List State) →
     o ≡ None → b ≡ false → Holds kp (record k { lock_cnt = 0 }) states s nest →
     Survives kp (unlocked_by at o b k choices) states nest
 unlocked-by kp at None false k choices states s nest e f h = (s, h)
@@ -122,17 +122,19 @@ goes-on_unlocked : (kp : ℕ) (k : Kernel) (choices : List ℕ) (states : List S
     Survives kp (unlocked_at true (started (record k { lock_cnt = 1 }) place) choices) states []
 goes-on_unlocked kp k choices states place h found fit =
     let holds : Holds kp (record (started k place) { lock_cnt = 0 }) states TN [] =
-        started-holds kp k states place TN 0 h found (normal-is (get_or states place TN) fit)
-        (record { thread = refl; phase = refl; later = λ f. cc }) refl in
+    started-holds kp k states place TN 0 h found (normal-is (get_or states place TN) fit)
+    (record { thread = refl; phase = refl; later = λ f. cc }) refl in
     unlocked_at-survives kp true (started (record k { lock_cnt = 1 }) place) choices states TN [] h.isr_cnt refl
     (holds.order refl refl) holds
 
 goes-on : (kp : ℕ) (left : Left) (k : Kernel) (choices : List ℕ) (states : List State) (place : ℕ) →
     MayLeave kp k states → Passes (is_best k.threads) k.threads place → fits_left left (get_or states place TN) ≡ true →
     Survives kp (goes_on left (started (record k { lock_cnt = 1 }) place) choices) states []
-goes-on kp InSCall k choices states place h found fit =
-    (get_or states place TN, started-holds kp k states place (get_or states place TN) 1 h found refl
-        (can-run_zone (get_or states place TN) fit) (locked-zone (get_or states place TN) fit))
+goes-on kp InSCall k choices states place h found fit = (
+  get_or states place TN,
+  started-holds kp k states place (get_or states place TN) 1 h found refl
+      (can-run_zone (get_or states place TN) fit) (locked-zone (get_or states place TN) fit),
+)
 goes-on kp New k choices states place h found fit = goes-on_unlocked kp k choices states place h found fit
 goes-on kp Preempted k choices states place h found fit = goes-on_unlocked kp k choices states place h found fit
 goes-on kp InNormalCall k choices states place h found fit = goes-on_unlocked kp k choices states place h found fit
@@ -145,9 +147,9 @@ switched-to kp (suc n) k choices states h e =
     let t : Thread = thread_at k.threads place in
     let within : first choices % suc n < suc n = mod-lt (first choices) (omega arith) in
     let found : Passes (is_best k.threads) k.threads place =
-        nth-passes (is_best k.threads) k.threads (first choices % suc n) (omega (arith, within, e)) in
+    nth-passes (is_best k.threads) k.threads (first choices % suc n) (omega (arith, within, e)) in
     let ready : is_ready t.status ≡ true =
-        and-left (is_ready t.status) (not (ready_above k.threads t.priority)) found.passes in
+    and-left (is_ready t.status) (not (ready_above k.threads t.priority)) found.passes in
     let fits : Fits t (get_or states place TN) = zip-get Fits k.threads states place no_thread TN h.fits found.within in
     goes-on kp t.left k (later choices) states place h found (fits (ready-parked t.status ready))
 
@@ -181,7 +183,7 @@ left-survives kp k choices states status left s h fit =
 -- a reschedule, and what else happens where no thread is above
 rescheduled-by :
     (kp : ℕ) (b : Bool) (left : Left) (otherwise : Done) (k : Kernel) (choices : List ℕ) (states : List State)
-        (s : State) →
+    (s : State) →
     MayLeave kp k states → fits_left left s ≡ true → (b ≡ false → Survives kp otherwise (set states k.running s) []) →
     Survives kp (cond b (switched (left_as Ready left k) choices) otherwise) (set states k.running s) []
 rescheduled-by kp true left otherwise k choices states s h fit else =
@@ -190,10 +192,10 @@ rescheduled-by kp false left otherwise k choices states s h fit else = else refl
 
 pub rescheduled-survives :
     (kp : ℕ) (left : Left) (otherwise : Kernel → List ℕ → Done) (k : Kernel) (choices : List ℕ) (states : List State)
-        (s : State) →
+    (s : State) →
     MayLeave kp k states → fits_left left s ≡ true →
     (ready_above k.threads (running_thread k).priority ≡ false → Survives kp (otherwise k choices)
-        (set states k.running s) []) →
+    (set states k.running s) []) →
     Survives kp (rescheduled left otherwise k choices) (set states k.running s) []
 rescheduled-survives kp left otherwise k choices states s h fit else =
     rescheduled-by kp (ready_above k.threads (running_thread k).priority) left

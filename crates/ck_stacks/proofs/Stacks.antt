@@ -96,7 +96,7 @@ module _ (flow : Flow) (roots : List Root) (numbers : Numbers) (main : Root)
   finishes-edge c status op edge o is e h =
       subst
       (λ o. Is (unwrap_or (option_map (along (stack_of status c)) o) (stack_of status c))
-          (after_outcome (act op c.state) c.state))
+      (after_outcome (act op c.state) c.state))
       (sym (is ∙ e)) h
 
   finishes-at : (c : Configuration) (status : Option Bool) (op : Op) (lock : ℕ) →
@@ -231,7 +231,7 @@ stays-sound flow roots numbers main project none events =
     after-sound numbers.kernel_priority (bare_stacks flow roots numbers) Within (Covers flow roots) laws
     (start_world flow main) events
     (first-sound numbers.kernel_priority (bare_stacks flow roots numbers) Within (Covers flow roots) laws (record {})
-        (start_of flow main) tt
+    (start_of flow main) tt
     (starts flow roots main TI project.main_listed project.main_start tt))
 
 pub no-bad_halt : NoBadHalt
