@@ -73,3 +73,6 @@ braced_tree-parts {A} b =
     (init_row-hidden t.earlier (plain.LastInit (designation_option t.designation) (init_tree t.last) t.comma))
 
 pub ruleset initialiser_views = (init_tree-Value, init_tree-Braced, braced_tree-new)
+
+-- initialisers in braces by their parts, for code that reads them
+pub ruleset initialiser_parts = (braced_tree-parts)

@@ -1,11 +1,14 @@
-//! The first and the last token that a node is written with, and so its span.
-ghost use Rattle.std.specs.Prelude.{◌≡◌, [], Some};
+//! The first and the last token that an expression is written with, and a part of a declaration; and so its span.
+ghost use Rattle.std.specs.Prelude.{Some, None};
 ghost use Rattle.ck_grammar.specs.Trees as plain;
 ghost use Rattle.ck_grammar.specs.Written as tokens;
-ghost use Rattle.ck_syntax.specs.Ends.{first, last};
-ghost use Rattle.ck_syntax.specs.ExpressionViews.{expr_tree, suffix_before};
+ghost use Rattle.ck_syntax.specs.Ends.{IsFirst, IsLast};
+ghost use Rattle.ck_syntax.specs.ExpressionViews.{expr_tree, suffix_before, specifier_before, dim_before};
+ghost use Rattle.ck_syntax.specs.ExpressionViews.{last_enumerator};
 
+use crate::declarators::Dim;
 use crate::expressions::{Expr, Suffix};
+use crate::specifiers::{Enumerator, Specifier};
 use ck_base::Token;
 use std::alloc::Allocator;
 
@@ -13,7 +16,7 @@ use std::alloc::Allocator;
 impl<A: Allocator> Expr<A> {
     /// The first token of the expression.
     pub fn first_token(&self) -> Token
-        ensures { Some result ≡ first (tokens.written (expr_tree self.now) []) }
+        ensures { IsFirst (Some result) (tokens.written (expr_tree self.now)) }
     {
         match self {
             Expr::Name(token) => *token,
@@ -35,7 +38,7 @@ impl<A: Allocator> Expr<A> {
 impl<A: Allocator> Suffix<A> {
     /// The first token of the suffix.
     pub fn first_token(&self) -> Token
-        ensures { Some result ≡ first (tokens.suffixes (suffix_before self.now plain.NoSuffixes) []) }
+        ensures { IsFirst (Some result) (tokens.suffixes (suffix_before self.now plain.NoSuffixes)) }
     {
         match self {
             Suffix::Index { opening, .. } => *opening,
@@ -48,7 +51,7 @@ impl<A: Allocator> Suffix<A> {
 
     /// The last token of the suffix.
     pub fn last_token(&self) -> Token
-        ensures { Some result ≡ last (tokens.suffixes (suffix_before self.now plain.NoSuffixes) []) }
+        ensures { IsLast (Some result) (tokens.suffixes (suffix_before self.now plain.NoSuffixes)) }
     {
         match self {
             Suffix::Index { closing, .. } => *closing,
@@ -56,6 +59,60 @@ impl<A: Allocator> Suffix<A> {
             Suffix::Call { closing, .. } => *closing,
             Suffix::MemberAccess { member, .. } => *member,
             Suffix::PostIncrement(operator) => *operator,
+        }
+    }
+}
+
+#[tactic(auto, using(crate::proofs::Equations::views, crate::proofs::Equations::parts))]
+impl<A: Allocator> Specifier<A> {
+    /// The first token of the specifier.
+    pub fn first_token(&self) -> Token
+        ensures { IsFirst (Some result) (tokens.specifiers (specifier_before self.now plain.NoSpecifiers)) }
+    {
+        match self {
+            Specifier::Word(token) => *token,
+            Specifier::TypedefName(token) => *token,
+            Specifier::Tagged { keyword, .. } => *keyword,
+            Specifier::Struct(specifier) => specifier.keyword,
+            Specifier::Enum(specifier) => specifier.keyword,
+        }
+    }
+}
+
+#[tactic(auto, using(crate::proofs::Equations::views))]
+impl<A: Allocator> Enumerator<A> {
+    /// The first token of the enumerator.
+    pub fn first_token(&self) -> Token
+        ensures { IsFirst (Some result) (tokens.enumerators (last_enumerator self.now None)) }
+    {
+        match self {
+            Enumerator::Plain(name) => *name,
+            Enumerator::Valued { name, .. } => *name,
+        }
+    }
+}
+
+#[tactic(auto, using(crate::proofs::Equations::views))]
+impl<A: Allocator> Dim<A> {
+    /// The first token of the dimension or the parameters.
+    pub fn first_token(&self) -> Token
+        ensures { IsFirst (Some result) (tokens.dims (dim_before self.now plain.NoDims)) }
+    {
+        match self {
+            Dim::Open { opening, .. } => *opening,
+            Dim::Sized { opening, .. } => *opening,
+            Dim::Function { opening, .. } => *opening,
+        }
+    }
+
+    /// The last token of the dimension or the parameters.
+    pub fn last_token(&self) -> Token
+        ensures { IsLast (Some result) (tokens.dims (dim_before self.now plain.NoDims)) }
+    {
+        match self {
+            Dim::Open { closing, .. } => *closing,
+            Dim::Sized { closing, .. } => *closing,
+            Dim::Function { closing, .. } => *closing,
         }
     }
 }

@@ -22,6 +22,7 @@ mod externals;
 mod initialisers;
 mod shapes;
 mod specifiers;
+mod statement_ends;
 mod statements;
 
 pub use declarations::{Decl, ForStart, Initialiser, NextDeclared};

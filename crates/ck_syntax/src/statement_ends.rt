@@ -1,0 +1,78 @@
+//! The first or the last token that a designator, an initialiser, a declaration or a statement is written with.
+ghost use Rattle.std.specs.Prelude.{Some};
+ghost use Rattle.ck_grammar.specs.Statements as plain;
+ghost use Rattle.ck_grammar.specs.StatementsWritten as tokens;
+ghost use Rattle.ck_syntax.specs.DeclarationViews.{declaration_tree};
+ghost use Rattle.ck_syntax.specs.Ends.{IsFirst, IsLast};
+ghost use Rattle.ck_syntax.specs.InitialiserViews.{designator_before, init_tree};
+ghost use Rattle.ck_syntax.specs.StatementViews.{statement_tree};
+
+use crate::declarations::Decl;
+use crate::initialisers::{Designator, Init};
+use crate::statements::Stmt;
+use ck_base::Token;
+use std::alloc::Allocator;
+
+impl<A: Allocator> Designator<A> {
+    /// The first token of the designator.
+    pub fn first_token(&self) -> Token
+        ensures { (rest : plain.Designators) → IsFirst (Some result) (tokens.designators (designator_before self.now rest)) }
+    {
+        match self {
+            Designator::DotName { dot, .. } => *dot,
+            Designator::AtIndex { opening, .. } => *opening,
+        }
+    }
+}
+
+#[tactic(auto, using(crate::proofs::InitialiserEquations::initialiser_views, crate::proofs::InitialiserEquations::initialiser_parts))]
+impl<A: Allocator> Init<A> {
+    /// The first token of the initialiser.
+    pub fn first_token(&self) -> Token
+        ensures { IsFirst (Some result) (tokens.init (init_tree self.now)) }
+    {
+        match self {
+            Init::Value(value) => value.first_token(),
+            Init::Braced(braced) => braced.opening,
+        }
+    }
+}
+
+impl<A: Allocator> Decl<A> {
+    /// The last token of the declaration, its `;`.
+    pub fn last_token(&self) -> Token
+        ensures { IsLast (Some result) (tokens.declaration (declaration_tree self.now)) }
+    {
+        match self {
+            Decl::Bare { semicolon, .. } => *semicolon,
+            Decl::Declares { semicolon, .. } => *semicolon,
+        }
+    }
+}
+
+#[tactic(auto, using(crate::proofs::StatementEquations::statement_views))]
+impl<A: Allocator> Stmt<A> {
+    /// The first token of the statement.
+    pub fn first_token(&self) -> Token
+        ensures { IsFirst (Some result) (tokens.statement (statement_tree self.now)) }
+    {
+        match self {
+            Stmt::Block { opening, .. } => *opening,
+            Stmt::Empty(semicolon) => *semicolon,
+            Stmt::ExpressionStatement { expr, .. } => expr.first_token(),
+            Stmt::If { keyword, .. } => *keyword,
+            Stmt::IfElse { keyword, .. } => *keyword,
+            Stmt::Switch { keyword, .. } => *keyword,
+            Stmt::While { keyword, .. } => *keyword,
+            Stmt::Do { keyword, .. } => *keyword,
+            Stmt::For { keyword, .. } => *keyword,
+            Stmt::Case { keyword, .. } => *keyword,
+            Stmt::Default { keyword, .. } => *keyword,
+            Stmt::Label { name, .. } => *name,
+            Stmt::Goto { keyword, .. } => *keyword,
+            Stmt::Jump { keyword, .. } => *keyword,
+            Stmt::Return { keyword, .. } => *keyword,
+            Stmt::ReturnValue { keyword, .. } => *keyword,
+        }
+    }
+}
