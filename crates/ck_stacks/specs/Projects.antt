@@ -23,7 +23,7 @@ pub record IsProject (flow : Flow) (roots : List Root) (numbers : Numbers) (main
   pub each_root : (number : ℕ) (root : Root) → slice_get roots number ≡ Some root → IsRoot numbers number root
   -- priority numbers are at most 255
   pub in_range : (number : ℕ) → numbers.priority number ≤ 255
-  -- each act has its edge, as in every graph without a fault
+  -- each act has its edge, as in every graph without a fault (`act-edges` of proofs/SoundGraphs.antt)
   pub act_edges :
       (point : ℕ) (op : Op) (name : ActName) → kind_at flow point ≡ Act op name →
       (edge : Edge) × HasEdge flow point 0 edge
