@@ -46,3 +46,8 @@ last-arguments t e ops c more = last-written t e (operands ops (c ∷ more))
 pub closes : (write : List Token → List Token) → ((us more : List Token) → write (us ++ more) ≡ (write us ++ more))
     → (t : Option Token) (c : Token) (more : List Token) → last_after t (write (c ∷ more)) ≡ last_after (Some c) more
 closes write appends t c more = ap (last_after t) (appends [] (c ∷ more)) ∙ last_after-append t (write []) (c ∷ more)
+
+-- a node before more tokens
+pub last-through : (write : List Token → List Token) → ((us more : List Token) → write (us ++ more) ≡ (write us ++ more))
+    → (t : Option Token) (more : List Token) → last_after t (write more) ≡ last_after (last_after t (write [])) more
+last-through write appends t more = ap (last_after t) (appends [] more) ∙ last_after-append t (write []) more
