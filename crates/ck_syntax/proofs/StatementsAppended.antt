@@ -1,4 +1,5 @@
--- A declaration or statement before some tokens and more is written as it is before the first of them, and then the others.
+-- A declaration or statement before some tokens and more is written as it is before the first of them, and then the
+-- others.
 use Rattle.std.proofs.Common.{◌≡◌, List, [], ◌∷◌, ◌++◌, Option, Some, None, refl, ◌∙◌}
 use Rattle.ck_base.specs.declared.tokens.Token.{Token}
 use Rattle.ck_grammar.proofs.Appended.{written_appended, specifiers_appended, declarator_appended}
@@ -9,7 +10,8 @@ use Rattle.ck_grammar.specs.Statements.{AndInitialised, Bare, Declares, StartEmp
 use Rattle.ck_grammar.specs.Statements.{Empty, ExpressionStatement, If, IfElse, Switch, While, Do, For, Case, Default}
 use Rattle.ck_grammar.specs.Statements.{Label, Goto, Jump, Return, ReturnValue, NoBlockItems, DeclarationItem}
 use Rattle.ck_grammar.specs.Statements.{StatementItem}
-use Rattle.ck_grammar.specs.StatementsWritten.{designators, designation, init, inits, more_declared, declared, declaration}
+use Rattle.ck_grammar.specs.StatementsWritten.{designators, designation, init, inits, more_declared, declared}
+use Rattle.ck_grammar.specs.StatementsWritten.{declaration}
 use Rattle.ck_grammar.specs.StatementsWritten.{for_start, maybe_written, statement, items}
 use Rattle.ck_syntax.proofs.EndLemmas.{closes, last-through}
 use Rattle.ck_syntax.specs.Ends.{last_after}

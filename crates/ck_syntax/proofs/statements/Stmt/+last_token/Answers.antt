@@ -53,7 +53,8 @@ returns-in-Switch g t c =
     (ap statement_tree c.in-Switch.is ∙ views.statement_tree-Switch _ _ _)
     (λ before more. last-written (Some value.opening) (expr_tree value.expr)
     (value.closing ∷ statement (statement_tree c.in-Switch.body.value) more)
-    ∙ last_along (λ s. statement (statement_tree s)) c.last_token-in-Switch.result (sym c.deref-in-Switch.ensures) c.last_token-in-Switch.ensures
+    ∙ last_along (λ s. statement (statement_tree s)) c.last_token-in-Switch.result (sym c.deref-in-Switch.ensures)
+    c.last_token-in-Switch.ensures
     (Some value.closing) more)
 
 pub returns-in-While : goal.returns-in-While
@@ -63,7 +64,8 @@ returns-in-While g t c =
     (ap statement_tree c.in-While.is ∙ views.statement_tree-While _ _ _)
     (λ before more. last-written (Some test.opening) (expr_tree test.expr)
     (test.closing ∷ statement (statement_tree c.in-While.body.value) more)
-    ∙ last_along (λ s. statement (statement_tree s)) c.last_token-in-While.result (sym c.deref-in-While.ensures) c.last_token-in-While.ensures
+    ∙ last_along (λ s. statement (statement_tree s)) c.last_token-in-While.result (sym c.deref-in-While.ensures)
+    c.last_token-in-While.ensures
     (Some test.closing) more)
 
 pub returns-in-IfElse : goal.returns-in-IfElse
