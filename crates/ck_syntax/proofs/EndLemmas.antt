@@ -15,7 +15,8 @@ pub last_along : {X : Type 0} (write : X → List Token → List Token) (token :
     → x ≡ y → IsLast (Some token) (write y) → IsLast (Some token) (write x)
 last_along write token is one = λ before more. ap (λ x. last_after before (write x more)) is ∙ one before more
 
-pub last_after-append : (t : Option Token) (xs ys : List Token) → last_after t (xs ++ ys) ≡ last_after (last_after t xs) ys
+pub last_after-append : (t : Option Token) (xs ys : List Token)
+    → last_after t (xs ++ ys) ≡ last_after (last_after t xs) ys
 last_after-append t [] ys = refl
 last_after-append t (x ∷ xs) ys = last_after-append (Some x) xs ys
 
@@ -26,15 +27,18 @@ last-written t e more = ap (last_after t) (written_appended e [] more) ∙ last_
 
 pub last-operands : (t : Option Token) (ops : plain.Operands) (more : List Token)
     → last_after t (operands ops more) ≡ last_after (last_after t (operands ops [])) more
-last-operands t ops more = ap (last_after t) (operands_appended ops [] more) ∙ last_after-append t (operands ops []) more
+last-operands t ops more =
+    ap (last_after t) (operands_appended ops [] more) ∙ last_after-append t (operands ops []) more
 
 pub last-specifiers : (t : Option Token) (s : plain.Specifiers) (more : List Token)
     → last_after t (specifiers s more) ≡ last_after (last_after t (specifiers s [])) more
-last-specifiers t s more = ap (last_after t) (specifiers_appended s [] more) ∙ last_after-append t (specifiers s []) more
+last-specifiers t s more =
+    ap (last_after t) (specifiers_appended s [] more) ∙ last_after-append t (specifiers s []) more
 
 pub last-declarator : (t : Option Token) (d : plain.Declarator) (more : List Token)
     → last_after t (declarator d more) ≡ last_after (last_after t (declarator d [])) more
-last-declarator t d more = ap (last_after t) (declarator_appended d [] more) ∙ last_after-append t (declarator d []) more
+last-declarator t d more =
+    ap (last_after t) (declarator_appended d [] more) ∙ last_after-append t (declarator d []) more
 
 -- the last token of a call's arguments and more tokens
 pub last-arguments : (t : Option Token) (e : plain.Expr) (ops : plain.Operands) (c : Token) (more : List Token)
@@ -46,3 +50,9 @@ last-arguments t e ops c more = last-written t e (operands ops (c ∷ more))
 pub closes : (write : List Token → List Token) → ((us more : List Token) → write (us ++ more) ≡ (write us ++ more))
     → (t : Option Token) (c : Token) (more : List Token) → last_after t (write (c ∷ more)) ≡ last_after (Some c) more
 closes write appends t c more = ap (last_after t) (appends [] (c ∷ more)) ∙ last_after-append t (write []) (c ∷ more)
+
+-- a node before more tokens
+pub last-through : (write : List Token → List Token)
+    → ((us more : List Token) → write (us ++ more) ≡ (write us ++ more))
+    → (t : Option Token) (more : List Token) → last_after t (write more) ≡ last_after (last_after t (write [])) more
+last-through write appends t more = ap (last_after t) (appends [] more) ∙ last_after-append t (write []) more

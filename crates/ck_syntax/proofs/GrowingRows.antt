@@ -1,7 +1,7 @@
--- Rows that a loop pushes, as a parser's loop or a walk's lets them grow. A parser's invariant: what its reader gives from
--- the start is what was pushed so far before what the reader gives from here (`row_before-push`). A walk's invariant: what
--- was pushed so far, before what the rest of the source row stands for, is what the whole row stands for (`row_step`, and
--- `row_done` at the end).
+-- Rows that a loop pushes, as a parser's loop or a walk's lets them grow. A parser's invariant: what its reader gives
+-- from the start is what was pushed so far before what the reader gives from here (`row_before-push`). A walk's
+-- invariant: what was pushed so far, before what the rest of the source row stands for, is what the whole row stands
+-- for (`row_step`, and `row_done` at the end).
 use Rattle.std.proofs.Common.{◌≡◌, ℕ, suc, ◌+◌, ◌<◌, ◌≤◌, List, [], ◌∷◌, ◌++◌, length, drop, get_or, refl, ap, subst}
 use Rattle.std.proofs.Common.{arith, sym, ◌∙◌, add-one}
 use Rattle.std.proofs.Math.Seq.{drop-cons, drop-length}
@@ -12,13 +12,13 @@ pub row_before-append : {X Y : Type 0} (before : X → Y → Y) (xs ys : List X)
 row_before-append before [] ys rest = refl
 row_before-append before (x ∷ xs) ys rest = ap (before x) (row_before-append before xs ys rest)
 
--- an element pushed
+-- What a row stands for after a loop pushed an element: what it stood for before that element and the others.
 pub row_before-push : {X Y : Type 0} (before : X → Y → Y) (xs : List X) (x : X) (rest : Y)
     → row_before before (xs ++ (x ∷ [])) rest ≡ row_before before xs (before x rest)
 row_before-push before xs x rest = row_before-append before xs (x ∷ []) rest
 
--- A step of a walk's loop from a row `xs` to a row of its own. `source` puts an element of `xs` before others, and `bare`
--- turns what the source row stands for into what the target row stands for; `before` and `after` put a pushed element
+-- A step of a walk's loop from a row `xs` to a row of its own. `source` puts an element of `xs` before others, and
+-- `bare` turns what the source row stands for into what the target row stands for; `before` and `after` put a pushed element
 -- before others, as it is read before and after this step's walk.
 pub row_step : {X P T Q : Type 0} (source : X → P → P) (bare : P → Q) (before after : T → Q → Q) (none : P)
     {xs ys : List X} (old new : List T) (all : Q) (i : ℕ) (x : X) (t : T)

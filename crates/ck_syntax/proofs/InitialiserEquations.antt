@@ -75,4 +75,4 @@ braced_tree-parts {A} b =
 pub ruleset initialiser_views = (init_tree-Value, init_tree-Braced, braced_tree-new)
 
 -- initialisers in braces by their parts, for code that reads them
-pub ruleset initialiser_parts = (braced_tree-parts)
+pub ruleset initialiser_parts = (init_tree-Value, init_tree-Braced, braced_tree-parts)

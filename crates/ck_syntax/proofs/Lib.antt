@@ -1,4 +1,5 @@
 -- Laws for the crates above: the views, production by production, and rows that loops push
+pub mod Views
 pub mod Equations
 pub mod InitialiserEquations
 pub mod StatementEquations

@@ -1,5 +1,5 @@
 -- The plain tree of each production of statements. Crates above name them all by the ruleset `statement_views`.
-use Rattle.std.proofs.Common.{◌≡◌, Box, Vec, Option, refl, ap, ◌∙◌}
+use Rattle.std.proofs.Common.{◌≡◌, Box, Vec, refl, ap, ◌∙◌}
 use Rattle.ck_base.specs.declared.tokens.Token.{Token}
 use Rattle.ck_grammar.specs.Statements as plain
 use Rattle.ck_syntax.specs.DeclarationViews.{declaration_tree, for_start_tree}

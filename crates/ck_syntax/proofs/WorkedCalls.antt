@@ -3,7 +3,7 @@ use Rattle.std.proofs.Common.{◌≡◌, [], refl}
 use Rattle.std.specs.Prelude.{true, false, codes}
 use Rattle.ck_base.specs.declared.tokens.TokenKind.TheVariants as kinds
 use Rattle.ck_grammar.proofs.Worked.{at}
-use Rattle.ck_grammar.specs.Trees.{Expr, Suffixes, Name, Postfix, Unary, NoOperands, NoSuffixes, Index, Call, CallEmpty}
+use Rattle.ck_grammar.specs.Trees.{Expr, Name, Postfix, Unary, NoOperands, NoSuffixes, Index, Call, CallEmpty}
 use Rattle.ck_grammar.specs.Words.{word_of}
 use Rattle.ck_syntax.specs.Calls.{holds_call}
 

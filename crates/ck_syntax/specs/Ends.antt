@@ -1,5 +1,5 @@
--- The first and the last of the tokens that a node is written with, if there are any: from the one to the other the node
--- has its span.
+-- The first and the last of the tokens that a node is written with, if there are any: from the one to the other the
+-- node has its span.
 use Rattle.std.specs.Prelude.{◌≡◌, List, [], ◌∷◌, Option, None, Some}
 use Rattle.ck_base.specs.declared.tokens.Token.{Token}
 

@@ -193,5 +193,6 @@ abbrev pub earlier_enumerator_before : {A : Type 0} → EarlierEnumerator A → 
 earlier_enumerator_before e others = enumerator_before e.enumerator e.comma others
 
 -- enumerators: those with others behind them, the last one, and maybe a comma
-abbrev pub enumerator_trees : {A : Type 0} → List (EarlierEnumerator A) → Enumerator A → Option Token → plain.Enumerators
+abbrev pub enumerator_trees : {A : Type 0}
+    → List (EarlierEnumerator A) → Enumerator A → Option Token → plain.Enumerators
 enumerator_trees earlier last comma = row_before earlier_enumerator_before earlier (last_enumerator last comma)

@@ -5,7 +5,8 @@ use Rattle.ck_grammar.specs.Statements as plain
 use Rattle.ck_syntax.specs.ExpressionViews.{expr_tree}
 use Rattle.ck_syntax.specs.Rows.{row_before}
 use Rattle.ck_syntax.specs.declared.initialisers.BracedInit.{BracedInit, BracedInit'}
-use Rattle.ck_syntax.specs.declared.initialisers.BracedInit.{Row_of-EarlierInit, end_of-EarlierInit, more_of-EarlierInit}
+use Rattle.ck_syntax.specs.declared.initialisers.BracedInit.{Row_of-EarlierInit, end_of-EarlierInit}
+use Rattle.ck_syntax.specs.declared.initialisers.BracedInit.{more_of-EarlierInit}
 use Rattle.ck_syntax.specs.declared.initialisers.Designation.{Designation}
 use Rattle.ck_syntax.specs.declared.initialisers.Designator.{Designator}
 use Rattle.ck_syntax.specs.declared.initialisers.Designator.TheVariants.{DotName, AtIndex}

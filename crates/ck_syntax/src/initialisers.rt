@@ -196,7 +196,8 @@ impl<A: Allocator> BracedInit<A> {
         closing: Token,
     ) -> BracedInit<A>
         ensures { braced_tree result ≡ plain.Braced opening
-            (init_trees earlier.items (plain.LastInit (designation_option designation) (init_tree last) comma)) closing }
+            (init_trees earlier.items (plain.LastInit (designation_option designation) (init_tree last) comma))
+            closing }
     {
         BracedInit {
             opening,

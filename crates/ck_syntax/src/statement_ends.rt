@@ -5,18 +5,20 @@ ghost use Rattle.ck_grammar.specs.StatementsWritten as tokens;
 ghost use Rattle.ck_syntax.specs.DeclarationViews.{declaration_tree};
 ghost use Rattle.ck_syntax.specs.Ends.{IsFirst, IsLast};
 ghost use Rattle.ck_syntax.specs.InitialiserViews.{designator_before, init_tree};
-ghost use Rattle.ck_syntax.specs.StatementViews.{statement_tree};
+ghost use Rattle.ck_syntax.specs.StatementViews.{statement_tree, item_before, external_tree};
 
 use crate::declarations::Decl;
+use crate::externals::External;
 use crate::initialisers::{Designator, Init};
-use crate::statements::Stmt;
+use crate::statements::{BlockItem, Stmt};
 use ck_base::Token;
 use std::alloc::Allocator;
 
 impl<A: Allocator> Designator<A> {
     /// The first token of the designator.
     pub fn first_token(&self) -> Token
-        ensures { (rest : plain.Designators) → IsFirst (Some result) (tokens.designators (designator_before self.now rest)) }
+        ensures { (rest : plain.Designators)
+            → IsFirst (Some result) (tokens.designators (designator_before self.now rest)) }
     {
         match self {
             Designator::DotName { dot, .. } => *dot,
@@ -25,7 +27,7 @@ impl<A: Allocator> Designator<A> {
     }
 }
 
-#[tactic(auto, using(crate::proofs::InitialiserEquations::initialiser_views, crate::proofs::InitialiserEquations::initialiser_parts))]
+#[tactic(auto, using(crate::proofs::InitialiserEquations::initialiser_parts))]
 impl<A: Allocator> Init<A> {
     /// The first token of the initialiser.
     pub fn first_token(&self) -> Token
@@ -73,6 +75,55 @@ impl<A: Allocator> Stmt<A> {
             Stmt::Jump { keyword, .. } => *keyword,
             Stmt::Return { keyword, .. } => *keyword,
             Stmt::ReturnValue { keyword, .. } => *keyword,
+        }
+    }
+
+    /// The last token of the statement.
+    pub fn last_token(&self) -> Token
+        ensures { IsLast (Some result) (tokens.statement (statement_tree self.now)) }
+    {
+        match self {
+            Stmt::Block { closing, .. } => *closing,
+            Stmt::Empty(semicolon) => *semicolon,
+            Stmt::ExpressionStatement { semicolon, .. } => *semicolon,
+            Stmt::If { then, .. } => then.last_token(),
+            Stmt::IfElse { otherwise, .. } => otherwise.last_token(),
+            Stmt::Switch { body, .. } => body.last_token(),
+            Stmt::While { body, .. } => body.last_token(),
+            Stmt::Do { semicolon, .. } => *semicolon,
+            Stmt::For { body, .. } => body.last_token(),
+            Stmt::Case { body, .. } => body.last_token(),
+            Stmt::Default { body, .. } => body.last_token(),
+            Stmt::Label { body, .. } => body.last_token(),
+            Stmt::Goto { semicolon, .. } => *semicolon,
+            Stmt::Jump { semicolon, .. } => *semicolon,
+            Stmt::Return { semicolon, .. } => *semicolon,
+            Stmt::ReturnValue { semicolon, .. } => *semicolon,
+        }
+    }
+}
+
+#[tactic(auto, using(crate::proofs::StatementEquations::statement_views))]
+impl<A: Allocator> BlockItem<A> {
+    /// The last token of the declaration or statement.
+    pub fn last_token(&self) -> Token
+        ensures { IsLast (Some result) (tokens.items (item_before self.now plain.NoBlockItems)) }
+    {
+        match self {
+            BlockItem::DeclarationItem(declaration) => declaration.last_token(),
+            BlockItem::StatementItem(statement) => statement.last_token(),
+        }
+    }
+}
+
+impl<A: Allocator> External<A> {
+    /// The last token of the external declaration.
+    pub fn last_token(&self) -> Token
+        ensures { IsLast (Some result) (tokens.external (external_tree self.now)) }
+    {
+        match self {
+            External::FileDeclaration(declaration) => declaration.last_token(),
+            External::FunctionDefinition { closing, .. } => *closing,
         }
     }
 }
