@@ -31,7 +31,7 @@ fn is_read(alloc: Global, length: usize) -> Result<bool, Fail> {
     if text.len() < length {
         text.push('#')?;
     }
-    while text.len() < length {
+    for _ in text.len()..length {
         text.push('.')?;
     }
     match read_settings(alloc, text.as_bytes()) {
