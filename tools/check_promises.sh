@@ -30,11 +30,11 @@ quoted() { # quoted TEXT: what stands between ` and `, a line each
 }
 
 while IFS= read -r row; do
-  promise=$(cell "$row" 1)
+  title=$(cell "$row" 1)
   cells=$(printf '%s\n' "$row" | awk -F '|' '{ print NF - 2 }')
-  [ "$cells" -eq 5 ] || { wrong "$promise: $cells cells, not 5"; continue; }
+  [ "$cells" -eq 5 ] || { wrong "$title: $cells cells, not 5"; continue; }
   words=$(cell "$row" 2 | wc -w)
-  [ "$words" -le 25 ] || wrong "$promise: $words words, more than 25"
+  [ "$words" -le 25 ] || wrong "$title: $words words, more than 25"
 
   crates=
   clauses=$(cell "$row" 3)
@@ -44,25 +44,25 @@ while IFS= read -r row; do
         name=$(printf '%s' "$part" | tr -d '`')
         crate=${name%%::*} function=${name##*::}
         crates="$crates $crate"
-        grep -qE "fn $function\b" "crates/$crate/src/"*.rt 2>/dev/null || wrong "$promise: $crate has no function $function"
+        grep -qE "fn $function\b" "crates/$crate/src/"*.rt 2>/dev/null || wrong "$title: $crate has no function $function"
         ;;
       *)
         grep -qE "(ensures|requires) $part \{" "crates/${crate:-none}/src/"*.rt 2>/dev/null ||
-          wrong "$promise: ${crate:-no crate} has no clause $part"
+          wrong "$title: ${crate:-no crate} has no clause $part"
         ;;
     esac
   done
-  [ -n "$crates" ] || wrong "$promise: no function carries it"
+  [ -n "$crates" ] || wrong "$title: no function carries it"
 
   file=
   for part in $(quoted "$(cell "$row" 4)"); do
     case $part in
       */*.antt)
         file=crates/$part
-        [ -f "$file" ] || wrong "$promise: there is no $file"
+        [ -f "$file" ] || wrong "$title: there is no $file"
         ;;
       *)
-        grep -qE "\b$part\b" "${file:-/dev/null}" 2>/dev/null || wrong "$promise: ${file:-no file} has no $part"
+        grep -qE "\b$part\b" "${file:-/dev/null}" 2>/dev/null || wrong "$title: ${file:-no file} has no $part"
         ;;
     esac
   done
@@ -72,7 +72,7 @@ while IFS= read -r row; do
     for crate in $crates; do
       [ ! -f "crates/$crate/must-fail/$edit.edit" ] || found=yes
     done
-    [ -n "$found" ] || wrong "$promise: none of$crates has the edit $edit"
+    [ -n "$found" ] || wrong "$title: none of$crates has the edit $edit"
   done
 done < "$rows"
 
