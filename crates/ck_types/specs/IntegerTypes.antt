@@ -1,7 +1,7 @@
 -- The integer types, their values, and the conversion of a value to one of them (C99 6.2.5, 6.3.1.1 to 6.3.1.3, 6.3.1.8).
 -- `char` is unsigned and one type with `unsigned char`.
-use Rattle.std.specs.Prelude.{ℕ, zero, suc, ◌-◌, ◌^◌, Bool, true, false, ◌&&◌, ◌==◌, nat_le, nat_lt, if◌then◌else◌}
-use Rattle.std.specs.Prelude.{int_le, int_lt, ℤ, pos, negsuc}
+use Rattle.std.specs.Prelude.{ℕ, zero, ◌-◌, ◌^◌, Bool, true, false, ◌&&◌, nat_le, nat_lt, if◌then◌else◌}
+use Rattle.std.specs.Prelude.{int_le, int_lt, ℤ, pos}
 use lib.IntN.{◌-ℤ◌, neg_ℤ}
 use Rattle.std.specs.Int.{int_rem_euclid}
 use Rattle.ck_types.specs.declared.integer_types.IntegerType.{IntegerType}

@@ -1,2 +1,4 @@
 -- What is promised
 pub mod IntegerTypes
+pub mod Arithmetic
+pub mod Ranges

@@ -1,5 +1,5 @@
 //! Integer types and the conversion of a value to one (C99 6.2.5, 6.3.1.1 to 6.3.1.3, 6.3.1.8).
-ghost use Rattle.std.specs.Prelude.{◌≡◌, ◌↔◌, ◌^◌, ◌-◌, true, IsTrue, ◌<◌, ◌≤◌, ◌*◌};
+ghost use Rattle.std.specs.Prelude.{◌≡◌, ◌^◌, true, pos};
 ghost use Rattle.ck_types.specs.IntegerTypes as spec;
 
 /// An integer type of the C subset, `_Bool` among them. An enumerated type is `int`.
@@ -125,24 +125,38 @@ impl IntegerType {
     /// A value converted to the type: for `_Bool` whether it is other than 0 (6.3.1.2), else what is left of it in the
     /// type's bits, which wraps where the type is signed (6.3.1.3). A value that the type can represent stays.
     pub fn convert(self, value: i128) -> i128
-        ensures { result ≡ spec.converted self value }
+        ensures converted { result ≡ spec.converted self value }
+        ensures range { spec.represents self result ≡ true }
     {
         match self {
-            IntegerType::Bool => {
-                if value == 0 {
-                    0
-                } else {
-                    1
-                }
-            }
-            IntegerType::Char => value.rem_euclid(256),
-            IntegerType::SignedChar => signed_modulo(value, 128),
-            IntegerType::Short => signed_modulo(value, 32_768),
-            IntegerType::UnsignedShort => value.rem_euclid(65_536),
-            IntegerType::Int | IntegerType::Long => signed_modulo(value, 2_147_483_648),
-            IntegerType::UnsignedInt | IntegerType::UnsignedLong => value.rem_euclid(4_294_967_296),
-            IntegerType::LongLong => signed_modulo(value, 9_223_372_036_854_775_808),
-            IntegerType::UnsignedLongLong => value.rem_euclid(18_446_744_073_709_551_616),
+            IntegerType::Bool => { if value == 0 { 0 } else { 1 } }
+            other => other.wrap(value),
+        }
+    }
+
+    /// What is left of a value in the type's bits, which wraps where the type is signed (6.3.1.3).
+    pub(crate) fn wrap(self, value: i128) -> i128
+        ensures { result ≡ spec.wrapped self value }
+    {
+        let left = value.rem_euclid(self.modulus());
+        if self.is_signed() && left > self.greatest() {
+            left - self.modulus()
+        } else {
+            left
+        }
+    }
+
+    /// How many values the type's bits have: 2 to the power of its width.
+    pub(crate) fn modulus(self) -> i128
+        ensures { result ≡ pos (2 ^ spec.width self) }
+    {
+        match self {
+            IntegerType::Bool => 2,
+            IntegerType::Char | IntegerType::SignedChar => 256,
+            IntegerType::Short | IntegerType::UnsignedShort => 65_536,
+            IntegerType::Int | IntegerType::UnsignedInt => 4_294_967_296,
+            IntegerType::Long | IntegerType::UnsignedLong => 4_294_967_296,
+            IntegerType::LongLong | IntegerType::UnsignedLongLong => 18_446_744_073_709_551_616,
         }
     }
 
@@ -202,14 +216,4 @@ fn of_both_signs(signed: IntegerType, unsigned: IntegerType) -> IntegerType
     } else {
         signed.unsigned()
     }
-}
-
-/// What is left of a value below twice `half`, where the upper half stands for negative values.
-fn signed_modulo(value: i128, half: u64) -> i128
-    requires { (0 < half) × (half ≤ 2 ^ 63) }
-    ensures { result ≡ spec.upper_half_negative half (2 * half) (spec.modulo (2 * half) value) }
-{
-    let half = i128::from(half);
-    let left = value.rem_euclid(2 * half);
-    if left < half { left } else { left - 2 * half }
 }

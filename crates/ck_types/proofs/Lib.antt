@@ -1,0 +1,8 @@
+-- The theorems
+-- converts_into_range, converts_to_itself
+pub mod Conversions
+-- Products that 128 bits hold
+pub mod Products
+pub mod Quotients
+-- Worked rows
+mod Worked
