@@ -1,5 +1,8 @@
 -- Worked rows, computed on the definitions.
 use Rattle.std.proofs.Common.{◌≡◌, refl, Ok, Err, ℤ, pos, negsuc}
+use Rattle.std.specs.Prelude.{Some, None, true, false}
+use Rattle.ck_types.specs.IntegerConstants.{constant_type}
+use Rattle.ck_types.specs.declared.constants.Suffix.TheVariants as suffixes
 use Rattle.ck_types.specs.Arithmetic.{binary, unary}
 use Rattle.ck_types.specs.IntegerTypes.{converted, common, promoted, greatest, least}
 use Rattle.ck_types.specs.declared.integer_types.IntegerType.{IntegerType}
@@ -122,3 +125,20 @@ minus_least = refl
 -- `!2ull` is the `int` 0
 not_two : unary unaries.Not (as_type types.UnsignedLongLong (pos 2)) ≡ Ok (as_type types.Int (pos 0))
 not_two = refl
+
+-- `2147483648` is a `long long`, `0x80000000` and `2147483648u` are `unsigned int`, `0xffffffffl` is `unsigned long`, and
+-- `9223372036854775808` has no type
+decimal_constant : constant_type true suffixes.Nothing 2147483648 ≡ Some types.LongLong
+decimal_constant = refl
+
+hexadecimal_constant : constant_type false suffixes.Nothing 2147483648 ≡ Some types.UnsignedInt
+hexadecimal_constant = refl
+
+unsigned_constant : constant_type true suffixes.U 2147483648 ≡ Some types.UnsignedInt
+unsigned_constant = refl
+
+long_constant : constant_type false suffixes.L 4294967295 ≡ Some types.UnsignedLong
+long_constant = refl
+
+no_type : constant_type true suffixes.Nothing 9223372036854775808 ≡ None
+no_type = refl
