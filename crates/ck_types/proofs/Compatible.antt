@@ -1,5 +1,5 @@
 -- Compatibility is reflexive and symmetric.
-use Rattle.std.proofs.Common.{◌≡◌, ℕ, refl, ap, arith, sym, Bool, true, false, List, [], ◌∷◌, Some, None, Option}
+use Rattle.std.proofs.Common.{◌≡◌, ℕ, refl, arith, Bool, true, false, List, [], ◌∷◌, Some, None, Option}
 use Rattle.std.specs.Prelude.{◌&&◌, ◌==◌}
 use Rattle.std.specs.Str.{bytes_eq}
 use Rattle.ck_types.specs.Compatibility.{IsReflexive, IsSymmetric}
@@ -8,7 +8,6 @@ use Rattle.ck_types.specs.Types.{Parameter, Qualifiers, StructIdentity, ByTag, B
 use Rattle.ck_types.specs.Types.{same_integer, same_qualifiers, same_struct, same_size, compatible, all_compatible}
 use Rattle.ck_types.specs.IntegerTypes.{rank, is_signed}
 use Rattle.ck_types.specs.declared.integer_types.IntegerType.{IntegerType}
-use Rattle.std.proofs.lemmas.Slice.Eq.{bytes_eq-Decides}
 
 and-true : {a b : Bool} → a ≡ true → b ≡ true → (a && b) ≡ true
 and-true {a} {b} p q = rw (p, q) refl
@@ -99,10 +98,10 @@ mutual
   compatible-swap Void Void = refl
   compatible-swap (Integer t) (Integer u) = same_integer-swap t u
   compatible-swap (Pointer p a) (Pointer q b) = and-same (same_qualifiers-swap p q) (compatible-swap a b)
-  compatible-swap (Array p a n) (Array q b m) = 
+  compatible-swap (Array p a n) (Array q b m) =
       and-same (and-same (same_qualifiers-swap p q) (compatible-swap a b)) (same_size-swap n m)
   compatible-swap (Struct s) (Struct t) = same_struct-swap s t
-  compatible-swap (Function p a ps e) (Function q b qs f) = 
+  compatible-swap (Function p a ps e) (Function q b qs f) =
       and-same (and-same (and-same (same_qualifiers-swap p q) (compatible-swap a b)) (all_compatible-swap ps qs))
       (same_truth-swap e f)
   compatible-swap _ _ = refl

@@ -1,6 +1,6 @@
 -- The types of the C subset as plain data, compatible types and composite types (C99 6.2.5, 6.2.7, 6.7.2 to 6.7.5). The
 -- type of an enumeration is `int`.
-use Rattle.std.specs.Prelude.{ℕ, Bool, true, false, ◌&&◌, ◌==◌, not, List, Option, Some, None, if◌then◌else◌}
+use Rattle.std.specs.Prelude.{ℕ, Bool, true, false, ◌&&◌, ◌==◌, not, List, Option, Some, None}
 use Rattle.std.specs.Str.{bytes_eq}
 use Rattle.ck_types.specs.IntegerTypes.{rank, is_signed}
 use Rattle.ck_types.specs.declared.integer_types.IntegerType.{IntegerType}

@@ -8,5 +8,7 @@ mod operators;
 
 pub use constants::{Suffix, constant_type};
 pub use integer_types::IntegerType;
-pub use laws::{compatible_is_reflexive, compatible_is_symmetric, converts_into_range, converts_to_itself};
+pub use laws::{
+    compatible_is_reflexive, compatible_is_symmetric, converts_into_range, converts_to_itself,
+};
 pub use operators::{BinaryOperator, IntegerValue, UnaryOperator, Undefined};
