@@ -13,7 +13,7 @@ use Rattle.ck_sound.specs.declared.threads.ThreadStatus.{ThreadStatus}
 use Rattle.ck_sound.specs.declared.threads.ThreadStatus.TheVariants.{Running, Ready}
 use Rattle.ck_sound.specs.Choices.{first, later}
 use Rattle.ck_sound.specs.Kernel.{Kernel, Done, running_thread, checked}
-use Rattle.ck_sound.specs.Sound.{Fits, is_parked, fits_left, AreLinked, Holds, Survives}
+use Rattle.ck_sound.specs.Sound.{Fits, is_off, fits_left, AreLinked, Holds, Survives}
 use Rattle.ck_sound.specs.Switch.{unlocked, unlocked_by, unlocked_at, started, goes_on, switched, switched_to, left_as, rescheduled}
 use Rattle.ck_sound.specs.SystemStates.{is_thread, in_section, is_normal, locked, phase_of}
 use Rattle.ck_sound.specs.Threads.{is_ready, is_best, ready_above, count, nth_place, thread_at, no_thread}
@@ -55,9 +55,9 @@ pub normal-is : (s : State) → is_normal s ≡ true → s ≡ TN
 normal-is TN e = refl
 normal-is _ e = absurd (cc)
 
-ready-parked : (s : ThreadStatus) → is_ready s ≡ true → is_parked s ≡ true
-ready-parked Ready e = refl
-ready-parked _ e = absurd (cc)
+ready-off : (s : ThreadStatus) → is_ready s ≡ true → is_off s ≡ true
+ready-off Ready e = refl
+ready-off _ e = absurd (cc)
 
 started-holds : (kp : ℕ) (k : Kernel) (states : List State) (place : ℕ) (s : State) (lock : ℕ) → MayLeave kp k states →
     Passes (is_best k.threads) k.threads place → get_or states place TN ≡ s → CanRun s → lock ≡ locked s →
@@ -74,7 +74,7 @@ started-holds kp k states place s lock h found here can is_lock =
       there = omega (arith, found.within, length_set k.threads place t);
       is_now = here;
       fits = zip-set_left Fits k.threads states place t TN h.fits (λ e. absurd (cc));
-      runs = ap (λ (x : Thread). is_parked x.status) (get_or-set_same k.threads place t no_thread found.within);
+      runs = ap (λ (x : Thread). is_off x.status) (get_or-set_same k.threads place t no_thread found.within);
       thread = can.thread;
       phase = h.phase ∙ can.phase;
       linked = h.linked;
@@ -151,7 +151,7 @@ switched-to kp (suc n) k choices states h e =
     let ready : is_ready t.status ≡ true =
     and-left (is_ready t.status) (not (ready_above k.threads t.priority)) found.passes in
     let fits : Fits t (get_or states place TN) = zip-get Fits k.threads states place no_thread TN h.fits found.within in
-    goes-on kp t.left k (later choices) states place h found (fits (ready-parked t.status ready))
+    goes-on kp t.left k (later choices) states place h found (fits (ready-off t.status ready))
 
 -- a switch to any thread that is ready
 pub switched-survives : (kp : ℕ) (k : Kernel) (choices : List ℕ) (states : List State) → MayLeave kp k states →
@@ -161,7 +161,7 @@ switched-survives kp k choices states h = switched-to kp (count (is_best k.threa
 
 -- A thread leaves the processor in a state that fits how it leaves.
 pub leave-may : (kp : ℕ) (k : Kernel) (states : List State) (status : ThreadStatus) (left : Left) (s : State) →
-    MayLeave kp k states → (is_parked status ≡ true → fits_left left s ≡ true) →
+    MayLeave kp k states → (is_off status ≡ true → fits_left left s ≡ true) →
     MayLeave kp (left_as status left k) (set states k.running s)
 leave-may kp k states status left s h fit = record {
   fits =
@@ -174,7 +174,7 @@ leave-may kp k states status left s h fit = record {
 
 pub left-survives :
     (kp : ℕ) (k : Kernel) (choices : List ℕ) (states : List State) (status : ThreadStatus) (left : Left) (s : State) →
-    MayLeave kp k states → (is_parked status ≡ true → fits_left left s ≡ true) →
+    MayLeave kp k states → (is_off status ≡ true → fits_left left s ≡ true) →
     Survives kp (switched (left_as status left k) choices) (set states k.running s) []
 left-survives kp k choices states status left s h fit =
     switched-survives kp (left_as status left k) choices (set states k.running s)

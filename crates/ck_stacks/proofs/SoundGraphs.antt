@@ -5,7 +5,7 @@ use Rattle.ck_base.specs.declared.ops.Op.{Op}
 use Rattle.ck_graph.specs.declared.points.Edge.{Edge}
 use Rattle.ck_graph.specs.declared.points.ActName.{ActName}
 use Rattle.ck_graph.specs.declared.points.PointKind.TheVariants.{Plain, Act}
-use Rattle.ck_graph.specs.Flow.{Flow, point_at, point_count, no_point}
+use Rattle.ck_graph.specs.Flow.{Flow, point_at, point_count}
 use Rattle.ck_graph.specs.Faults.{IsSound, FitsKind}
 use Rattle.ck_graph.specs.Steps.{kind_at, HasEdge}
 use Rattle.ck_graph.proofs.SoundGraphs.{point_at_past}

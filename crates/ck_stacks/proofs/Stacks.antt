@@ -15,7 +15,7 @@ use Rattle.ck_graph.specs.declared.points.PointKind.{PointKind}
 use Rattle.ck_graph.specs.declared.points.PointKind.TheVariants.{Plain, Act, Call, Exit}
 use Rattle.ck_graph.specs.declared.entries.Root.{Root}
 use Rattle.ck_graph.specs.Flow.{Flow, point_at}
-use Rattle.ck_graph.specs.Walk.{Configuration, Reaches}
+use Rattle.ck_graph.specs.Walk.{Configuration}
 use Rattle.ck_graph.specs.Steps.{kind_at}
 use Rattle.ck_graph.specs.Forbidden.{AreAlarms}
 use Rattle.ck_sound.specs.Choices.{first, later}
@@ -30,7 +30,7 @@ use Rattle.ck_stacks.specs.BareStacks.{Stack, NoMemory, stack_of, start_of, plac
 use Rattle.ck_stacks.specs.Projects.{IsProject}
 use Rattle.ck_stacks.specs.Promise.{KeepsStatus, Covered, Within, Covers, start_world, world_after, NoBadHalt, StaysSound}
 use Rattle.ck_stacks.proofs.Statuses.{status_kept, kept-is, keeps-status}
-use Rattle.ck_stacks.proofs.Walks.{starts, covered-moves, covered-acts, allowed-at}
+use Rattle.ck_stacks.proofs.Walks.{From, starts, covered-moves, covered-acts, allowed-at}
 
 contains-get : (roots : List Root) (n : ℕ) (root : Root) → slice_get roots n ≡ Some root → Contains roots root
 contains-get [] n root e = absurd (cc)
@@ -73,40 +73,41 @@ module _ (flow : Flow) (roots : List Root) (numbers : Numbers) (main : Root)
       let same : moved_of flow stack choice ≡ stack' = cc in
       let at : Is (moved_of flow stack choice) h.c.state =
       subst (λ st. Is (moved_of flow st choice) h.c.state) h.stack_is
-      (covered-moves flow roots h.c stack.status choice h.reached h.status_is) in
+      (covered-moves flow roots h.c stack.root stack.status choice (h.listed, h.reached) h.status_is) in
       subst₂ Is same h.state_is at
 
   act-here : (stack : Stack) (state : State) (op : Op) (h : Is stack state) → place_of flow stack ≡ AtAct op →
       IsActAt (kind_at flow h.c.top.point) op
   act-here stack state op h is =
-      let at : place_of flow (stack_of stack.status h.c) ≡ AtAct op =
+      let at : place_of flow (stack_of stack.root stack.status h.c) ≡ AtAct op =
       subst (λ st. place_of flow st ≡ AtAct op) (sym h.stack_is) is in
-      act-at (kind_at flow h.c.top.point) (stack_of stack.status h.c).below op at
+      act-at (kind_at flow h.c.top.point) (stack_of stack.root stack.status h.c).below op at
 
   allowed-on : (stack : Stack) (state : State) (op : Op) → Is stack state → place_of flow stack ≡ AtAct op →
       IsAllowed (act op state)
   allowed-on stack state op h is =
       let a : IsActAt (kind_at flow h.c.top.point) op = act-here stack state op h is in
-      subst (λ s. IsAllowed (act op s)) h.state_is (allowed-at flow roots h.c op a.name none h.reached a.is)
+      subst (λ s. IsAllowed (act op s)) h.state_is
+      (allowed-at flow roots h.c stack.root op a.name none (h.listed, h.reached) a.is)
 
-  finishes-edge : (c : Configuration) (status : Option Bool) (op : Op) (edge : Edge) (o : Option Edge) →
+  finishes-edge : (c : Configuration) (root : Root) (status : Option Bool) (op : Op) (edge : Edge) (o : Option Edge) →
       slice_get (point_at flow c.top.point).edges 0 ≡ o → o ≡ Some edge →
-      Is (along (stack_of status c) edge) (after_outcome (act op c.state) c.state) →
-      Is (finished_of flow (stack_of status c)) (after_outcome (act op c.state) c.state)
-  finishes-edge c status op edge o is e h =
+      Is (along (stack_of root status c) edge) (after_outcome (act op c.state) c.state) →
+      Is (finished_of flow (stack_of root status c)) (after_outcome (act op c.state) c.state)
+  finishes-edge c root status op edge o is e h =
       subst
-      (λ o. Is (unwrap_or (option_map (along (stack_of status c)) o) (stack_of status c))
+      (λ o. Is (unwrap_or (option_map (along (stack_of root status c)) o) (stack_of root status c))
       (after_outcome (act op c.state) c.state))
       (sym (is ∙ e)) h
 
-  finishes-at : (c : Configuration) (status : Option Bool) (op : Op) (lock : ℕ) →
-      Reaches flow roots c → KeepsStatus (status_of c.state) status → IsActAt (kind_at flow c.top.point) op →
+  finishes-at : (c : Configuration) (root : Root) (status : Option Bool) (op : Op) (lock : ℕ) →
+      From flow roots root c → KeepsStatus (status_of c.state) status → IsActAt (kind_at flow c.top.point) op →
       LockOf op c.state lock → IsNext (act op c.state) →
-      Is (finished_of flow (stack_of (status_kept op lock status) c)) (after_outcome (act op c.state) c.state)
-  finishes-at c status op lock r keeps a is_lock next =
+      Is (finished_of flow (stack_of root (status_kept op lock status) c)) (after_outcome (act op c.state) c.state)
+  finishes-at c root status op lock r keeps a is_lock next =
       let e = project.act_edges c.top.point op a.name a.is in
-      finishes-edge c (status_kept op lock status) op e.0 (Some e.0) e.1 refl
-      (covered-acts flow roots c (status_kept op lock status) op a.name e.0 r a.is next e.1
+      finishes-edge c root (status_kept op lock status) op e.0 (Some e.0) e.1 refl
+      (covered-acts flow roots c root (status_kept op lock status) op a.name e.0 r a.is next e.1
       (keeps-status op c.state lock status is_lock next keeps))
 
   finishes-on : (stack : Stack) (state : State) (op : Op) (lock : ℕ) → Is stack state →
@@ -116,9 +117,10 @@ module _ (flow : Flow) (roots : List Root) (numbers : Numbers) (main : Root)
   finishes-on stack state op lock h is is_lock next =
       let c : Configuration = h.c in
       let kept : Option Bool = status_kept op lock stack.status in
-      let at = finishes-at c stack.status op lock h.reached h.status_is (act-here stack state op h is)
+      let at = finishes-at c stack.root stack.status op lock (h.listed, h.reached) h.status_is
+      (act-here stack state op h is)
       (subst (λ s. LockOf op s lock) (sym h.state_is) is_lock) (subst (λ s. IsNext (act op s)) (sym h.state_is) next) in
-      let same : stack_of kept c ≡ kept_by (bare_stacks flow roots numbers) op lock stack =
+      let same : stack_of stack.root kept c ≡ kept_by (bare_stacks flow roots numbers) op lock stack =
       ap (λ (st : Stack). record st { status = kept }) h.stack_is ∙ sym (kept-is flow roots numbers op lock stack) in
       subst₂ (λ st s. Is (finished_of flow st) (after_outcome (act op s) s)) same h.state_is at
 

@@ -1,6 +1,6 @@
--- Bare stacks, the widest C side that there is. A context is the points of its frames and the status of its last
--- chSysGetStatusAndLockX; there is no data. The choices of an event say which of the moves of a walk is made, and what
--- an act asks of the kernel, whatever the call is: nothing, a thread of any root with any priority, or a priority.
+-- Bare stacks, the widest C side that there is. A context is its root, the points of its frames and the status of its
+-- last chSysGetStatusAndLockX; there is no data. The choices of an event say which of the moves of a walk is made, and
+-- what an act asks of the kernel, whatever the call is: nothing, a thread of any root with any priority, or a priority.
 use Rattle.std.specs.Prelude.{ℕ, zero, suc, Bool, true, false, if◌then◌else◌, nat_lt, List, [], ◌∷◌, map, Option, Some, None, option_map, slice_get}
 use Rattle.std.specs.Option.{unwrap_or}
 use Rattle.ck_base.specs.declared.ops.Op.TheVariants.{RestoreStatus}
@@ -19,8 +19,10 @@ use Rattle.ck_sound.specs.Choices.{first, later, odd}
 use Rattle.ck_sound.specs.Kernel.{Nothing, Creates, SetsPriority, Restores}
 use Rattle.ck_sound.specs.Side.{Side, Handler, Place, AtAct, AtEnd, Between, MovesTo, Asked, Asks, AskFails}
 
--- the points of the frames, the top one apart, and the status that the last chSysGetStatusAndLockX gave, if any
+-- the root where the context began; the points of its frames, the top one apart; and the status that its last
+-- chSysGetStatusAndLockX gave, if any
 pub record Stack : Type 0 where
+  pub root : Root
   pub top : ℕ
   pub below : List ℕ
   pub status : Option Bool
@@ -30,13 +32,18 @@ pub record NoMemory : Type 0 where
 abbrev pub point_of : Frame → ℕ
 point_of frame = frame.point
 
--- the stack of a configuration of a walk, with this status
-abbrev pub stack_of : Option Bool → Configuration → Stack
-stack_of status c = record { top = c.top.point; below = map point_of c.below; status = status }
+-- the stack of a configuration of a walk from a root, with this status
+abbrev pub stack_of : Root → Option Bool → Configuration → Stack
+stack_of root status c = record {
+  root = root;
+  top = c.top.point;
+  below = map point_of c.below;
+  status = status;
+}
 
 -- the stack of a context that starts at a root
 abbrev pub start_of : Flow → Root → Stack
-start_of flow root = stack_of None (start flow root)
+start_of flow root = stack_of root None (start flow root)
 
 -- where a stack is
 abbrev pub place_by : PointKind → List ℕ → Place
@@ -56,10 +63,10 @@ abbrev pub entered : Flow → Stack → ℕ → Stack
 entered flow stack target = record stack { top = first_of flow target; below = stack.top ∷ stack.below }
 
 -- the top frame goes away, and its caller goes along the edge of its call
-abbrev pub returned : Flow → Option Bool → List ℕ → Option Stack
-returned flow status [] = None
-returned flow status (caller ∷ below) =
-    option_map (along (record { top = caller; below = below; status = status }))
+abbrev pub returned : Flow → Stack → List ℕ → Option Stack
+returned flow stack [] = None
+returned flow stack (caller ∷ below) =
+    option_map (along (record stack { top = caller; below = below }))
     (slice_get (point_at flow caller).edges 0)
 
 -- the stack after the move of a walk that a choice names: an edge by its place, a target by its number
@@ -67,7 +74,7 @@ abbrev pub moved_by : Flow → PointKind → Stack → ℕ → Option Stack
 moved_by flow Plain stack choice = option_map (along stack) (slice_get (point_at flow stack.top).edges choice)
 moved_by flow (Call call) stack choice =
     if names_target (point_at flow stack.top).targets choice then Some (entered flow stack choice) else None
-moved_by flow Exit stack choice = returned flow stack.status stack.below
+moved_by flow Exit stack choice = returned flow stack stack.below
 moved_by flow (Act op name) stack choice = None
 
 -- where the choice names no move, the stack stays

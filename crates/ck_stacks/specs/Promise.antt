@@ -1,6 +1,6 @@
 -- The two laws on bare stacks: where no walk meets an alarm, no run of threads and nested interrupts halts badly, and
--- each stack is that of a walk, in the state that the kernel's part of the world says.
-use Rattle.std.specs.Prelude.{◌≡◌, Bool, List, [], Option, Some, None}
+-- each stack is that of a walk from its root, in the state that the kernel's part of the world says.
+use Rattle.std.specs.Prelude.{◌≡◌, Bool, List, [], ◌∷◌, Option, Some, None, Contains}
 use Rattle.ck_base.specs.declared.states.State.{State}
 use Rattle.ck_base.specs.Counters.{status_of}
 use Rattle.ck_graph.specs.declared.entries.Root.{Root}
@@ -32,11 +32,13 @@ abbrev pub KeepsStatus : Option Bool → Option Bool → Type 0
 KeepsStatus None kept = Unit {0}
 KeepsStatus (Some locked) kept = kept ≡ Some locked
 
--- a walk from a root reaches a configuration with the points of this stack, in this state
+-- the root of this stack is one of the roots, and a walk from it reaches a configuration with the points of this stack,
+-- in this state
 pub record Covered (flow : Flow) (roots : List Root) (stack : Stack) (state : State) : Type 0 where
+  pub listed : Contains roots stack.root
   pub c : Configuration
-  pub reached : Reaches flow roots c
-  pub stack_is : stack_of stack.status c ≡ stack
+  pub reached : Reaches flow (stack.root ∷ []) c
+  pub stack_is : stack_of stack.root stack.status c ≡ stack
   pub state_is : c.state ≡ state
   pub status_is : KeepsStatus (status_of c.state) stack.status
 
@@ -46,8 +48,8 @@ Within memory = Unit {0}
 abbrev pub Covers : Flow → List Root → NoMemory → Stack → State → Type 0
 Covers flow roots memory stack state = Covered flow roots stack state
 
--- Where the alarm set is empty, after every list of events each stack is covered by a walk from a root, and the
--- kernel's part of the world is as the states of these walks say.
+-- Where the alarm set is empty, after every list of events each stack is covered by a walk from its root, and
+-- the kernel's part of the world is as the states of these walks say.
 abbrev pub StaysSound : Type 0
 StaysSound =
     (flow : Flow) (roots : List Root) (numbers : Numbers) (main : Root) →
