@@ -1,10 +1,18 @@
 -- The first and the last of tokens that are written one after the other.
-use Rattle.std.proofs.Common.{◌≡◌, List, [], ◌∷◌, ◌++◌, Option, Some, refl, ap, ◌∙◌}
+use Rattle.std.proofs.Common.{◌≡◌, List, [], ◌∷◌, ◌++◌, Option, Some, None, refl, ap, ◌∙◌}
 use Rattle.ck_base.specs.declared.tokens.Token.{Token}
 use Rattle.ck_grammar.proofs.Appended.{written_appended, operands_appended, specifiers_appended, declarator_appended}
+use Rattle.ck_grammar.proofs.Appended.{members_appended, enumerators_appended}
+use Rattle.ck_grammar.specs.Statements.{Equals}
+use Rattle.ck_grammar.specs.StatementsWritten.{designators}
 use Rattle.ck_grammar.specs.Trees as plain
-use Rattle.ck_grammar.specs.Written.{written, operands, specifiers, declarator}
+use Rattle.ck_grammar.specs.Written.{written, operands, specifiers, declarator, members, enumerators, optional}
 use Rattle.ck_syntax.specs.Ends.{first, last_after, IsFirst, IsLast}
+use Rattle.ck_syntax.specs.ExpressionViews.{expr_tree}
+use Rattle.ck_syntax.specs.InitialiserViews.{designator_before}
+use Rattle.ck_syntax.specs.Rows.{row_before}
+use Rattle.ck_syntax.specs.declared.initialisers.Designator.{Designator}
+use Rattle.ck_syntax.specs.declared.initialisers.Designator.TheVariants.{DotName, AtIndex}
 
 -- what holds of a plain tree, said of a tree that stands for it
 pub first_along : {X : Type 0} (write : X → List Token → List Token) (token : Token) {x y : X}
@@ -56,3 +64,24 @@ pub last-through : (write : List Token → List Token)
     → ((us more : List Token) → write (us ++ more) ≡ (write us ++ more))
     → (t : Option Token) (more : List Token) → last_after t (write more) ≡ last_after (last_after t (write [])) more
 last-through write appends t more = ap (last_after t) (appends [] more) ∙ last_after-append t (write []) more
+
+-- a struct or an enum ends with its brace
+pub last-struct : (tag : Option Token) (o : Token) (ms : plain.Members) (k c : Token) (more : List Token)
+    → last_after (Some k) (optional tag (o ∷ members ms (c ∷ more))) ≡ last_after (Some c) more
+last-struct None o ms k c more = closes (members ms) (members_appended ms) (Some o) c more
+last-struct (Some tag) o ms k c more = closes (members ms) (members_appended ms) (Some o) c more
+
+pub last-enum : (tag : Option Token) (o : Token) (es : plain.Enumerators) (k c : Token) (more : List Token)
+    → last_after (Some k) (optional tag (o ∷ enumerators es (c ∷ more))) ≡ last_after (Some c) more
+last-enum None o es k c more = closes (enumerators es) (enumerators_appended es) (Some o) c more
+last-enum (Some tag) o es k c more = closes (enumerators es) (enumerators_appended es) (Some o) c more
+
+-- designators end with their `=`
+pub last-designation : {A : Type 0} (t : Option Token) (ds : List (Designator A)) (equals : Token) (more : List Token)
+    → last_after t (designators (row_before designator_before ds (Equals equals)) more) ≡ last_after (Some equals) more
+last-designation t [] equals more = refl
+last-designation t (DotName dot name ∷ ds) equals more = last-designation (Some name) ds equals more
+last-designation t (AtIndex opening index closing ∷ ds) equals more =
+    last-written (Some opening) (expr_tree index.value)
+    (closing ∷ designators (row_before designator_before ds (Equals equals)) more)
+    ∙ last-designation (Some closing) ds equals more

@@ -18,8 +18,8 @@ pub row_before-push : {X Y : Type 0} (before : X → Y → Y) (xs : List X) (x :
 row_before-push before xs x rest = row_before-append before xs (x ∷ []) rest
 
 -- A step of a walk's loop from a row `xs` to a row of its own. `source` puts an element of `xs` before others, and
--- `bare` turns what the source row stands for into what the target row stands for; `before` and `after` put a pushed element
--- before others, as it is read before and after this step's walk.
+-- `bare` turns what the source row stands for into what the target row stands for; `before` and `after` put a pushed
+-- element before others, as it is read before and after this step's walk.
 pub row_step : {X P T Q : Type 0} (source : X → P → P) (bare : P → Q) (before after : T → Q → Q) (none : P)
     {xs ys : List X} (old new : List T) (all : Q) (i : ℕ) (x : X) (t : T)
     → ys ≡ xs → i < length ys → x ≡ get_or ys i x → new ≡ old ++ t ∷ []

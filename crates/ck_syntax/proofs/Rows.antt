@@ -124,7 +124,8 @@ enumerator_row-items {A} _ (block.more_of-EarlierEnumerator {n} enumerator comma
     ap (views.enumerator_before enumerator comma) (enumerator_row-items n others last)
 
 pub enumerator_row-hidden : {A : Type 0} (v : Vec (EarlierEnumerator A) A) (last : plain.Enumerators)
-    → enumerator_row (block.hidden-the_row-EarlierEnumerator-5 A v) last ≡ row_before earlier_enumerator_before v.items last
+    → enumerator_row (block.hidden-the_row-EarlierEnumerator-5 A v) last
+    ≡ row_before earlier_enumerator_before v.items last
 enumerator_row-hidden {A} v last =
     enumerator_row-items _ (block.hidden-the_row-EarlierEnumerator-5 A v) last
     ∙ ap (λ es. row_before earlier_enumerator_before es last) (block.items_hidden-the_row-EarlierEnumerator-5 A v)

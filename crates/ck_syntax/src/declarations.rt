@@ -32,7 +32,8 @@ pub enum Decl<A: Allocator> {
         specifiers: Vec<Specifier<A>, A>,
         semicolon: Token,
     },
-    /// Specifiers, a declarator and maybe its initialiser, further ones, `;`
+    /// Specifiers, a declarator and maybe its initialiser, further ones, `;` The declarators are `declarator`, and
+    /// those of `others` in order; the definition `declaration_tree` says so.
     Declares {
         specifiers: Vec<Specifier<A>, A>,
         declarator: Declarator<A>,

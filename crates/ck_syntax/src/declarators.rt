@@ -80,7 +80,8 @@ pub enum Parameters<A: Allocator> {
     Empty,
     /// `void` alone.
     Void(Token),
-    /// A list, and maybe a comma and `...`
+    /// A list, and maybe a comma and `...` The parameters are `specifiers` with `declarator`, and those of `others` in
+    /// order; the law `parameters_tree-Listed` of the ruleset `views` says so.
     Listed {
         specifiers: Vec<Specifier<A>, A>,
         declarator: Declarator<A>,

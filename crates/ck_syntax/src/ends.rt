@@ -4,11 +4,11 @@ ghost use Rattle.ck_grammar.specs.Trees as plain;
 ghost use Rattle.ck_grammar.specs.Written as tokens;
 ghost use Rattle.ck_syntax.specs.Ends.{IsFirst, IsLast};
 ghost use Rattle.ck_syntax.specs.ExpressionViews.{expr_tree, suffix_before, specifier_before, dim_before};
-ghost use Rattle.ck_syntax.specs.ExpressionViews.{last_enumerator};
+ghost use Rattle.ck_syntax.specs.ExpressionViews.{last_enumerator, member_before};
 
 use crate::declarators::Dim;
 use crate::expressions::{Expr, Suffix};
-use crate::specifiers::{Enumerator, Specifier};
+use crate::specifiers::{Enumerator, Member, Specifier};
 use ck_base::Token;
 use std::alloc::Allocator;
 
@@ -76,6 +76,28 @@ impl<A: Allocator> Specifier<A> {
             Specifier::Struct(specifier) => specifier.keyword,
             Specifier::Enum(specifier) => specifier.keyword,
         }
+    }
+
+    /// The last token of the specifier.
+    pub fn last_token(&self) -> Token
+        ensures { IsLast (Some result) (tokens.specifiers (specifier_before self.now plain.NoSpecifiers)) }
+    {
+        match self {
+            Specifier::Word(token) => *token,
+            Specifier::TypedefName(token) => *token,
+            Specifier::Tagged { tag, .. } => *tag,
+            Specifier::Struct(specifier) => specifier.closing,
+            Specifier::Enum(specifier) => specifier.closing,
+        }
+    }
+}
+
+impl<A: Allocator> Member<A> {
+    /// The last token of the member declaration, its `;`.
+    pub fn last_token(&self) -> Token
+        ensures { IsLast (Some result) (tokens.members (member_before self.now plain.NoMembers)) }
+    {
+        self.semicolon
     }
 }
 

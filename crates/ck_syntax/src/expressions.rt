@@ -88,7 +88,8 @@ pub enum Suffix<A: Allocator> {
         opening: Token,
         closing: Token,
     },
-    /// `(` argument, and with commas before them the others `)`
+    /// `(` argument, and with commas before them the others `)` The arguments are `first`, and the operands of `others`
+    /// in order; the law `suffix_before-Call` of the ruleset `views` says so.
     Call {
         opening: Token,
         first: Box<Expr<A>, A>,

@@ -41,7 +41,8 @@ pub enum Init<A: Allocator> {
 }
 
 /// `{` initialisers `}` (6.7.8): those before a comma and others, the last one after its designators, and maybe a
-/// comma.
+/// comma. Its initialisers are those of `earlier` in order, and `last`; the law `braced_tree-parts` of the ruleset
+/// `views` says so.
 #[cycle(initialisers)]
 pub struct BracedInit<A: Allocator> {
     pub opening: Token,

@@ -6,9 +6,9 @@
 //! plain trees of ck_grammar, `specs/ExpressionViews.antt` and its neighbours. A builder takes its parts as
 //! the tree holds them, so it can't fail: `boxed` of each type that is boxed is all that takes memory.
 //!
-//! Crates above rest on `proofs/Equations.antt` and its neighbours, the plain tree of each production under the
-//! rulesets `views`, `initialiser_views` and `statement_views`, and on `proofs/GrowingRows.antt`, rows that a
-//! loop pushes.
+//! Crates above rest on `proofs/Views.antt`, whose one ruleset `views` has the plain tree of each production and of
+//! each struct by its fields, and on `proofs/GrowingRows.antt`, rows that a loop pushes. What the grammar writes as a
+//! first element and others is read by the fields, which `views` says too: a walk needs no list of its own.
 //!
 //! Left-associative operators, suffixes, pointer stars and items are vectors, so no walk and no drop goes
 //! deeper than the nesting. It must not know: types, scopes, and how tokens are cut or read.

@@ -36,7 +36,8 @@ pub struct StructSpecifier<A: Allocator> {
     pub closing: Token,
 }
 
-/// `enum` [tag] `{` enumerators `}` (6.7.2.2): those before a comma and others, the last one, and maybe a comma.
+/// `enum` [tag] `{` enumerators `}` (6.7.2.2): those before a comma and others, the last one, and maybe a comma. Its
+/// enumerators are those of `earlier` in order, and `last`; the law `enum_before-parts` of the ruleset `views` says so.
 #[cycle(trees)]
 pub struct EnumSpecifier<A: Allocator> {
     pub keyword: Token,
@@ -48,7 +49,8 @@ pub struct EnumSpecifier<A: Allocator> {
     pub closing: Token,
 }
 
-/// A member declaration of a struct (6.7.2.1).
+/// A member declaration of a struct (6.7.2.1). Its declarators are `first`, and those of `others` in order; the law
+/// `member_before-parts` of the ruleset `views` says so.
 #[cycle(trees)]
 pub struct Member<A: Allocator> {
     pub specifiers: Vec<Specifier<A>, A>,

@@ -1,15 +1,15 @@
 //! The first or the last token that a designator, an initialiser, a declaration or a statement is written with.
-ghost use Rattle.std.specs.Prelude.{Some};
+ghost use Rattle.std.specs.Prelude.{◌≡◌, Some};
 ghost use Rattle.ck_grammar.specs.Statements as plain;
 ghost use Rattle.ck_grammar.specs.StatementsWritten as tokens;
 ghost use Rattle.ck_syntax.specs.DeclarationViews.{declaration_tree};
-ghost use Rattle.ck_syntax.specs.Ends.{IsFirst, IsLast};
-ghost use Rattle.ck_syntax.specs.InitialiserViews.{designator_before, init_tree};
+ghost use Rattle.ck_syntax.specs.Ends.{IsFirst, IsLast, last_after};
+ghost use Rattle.ck_syntax.specs.InitialiserViews.{designator_before, designation_tree, init_tree};
 ghost use Rattle.ck_syntax.specs.StatementViews.{statement_tree, item_before, external_tree};
 
 use crate::declarations::Decl;
 use crate::externals::External;
-use crate::initialisers::{Designator, Init};
+use crate::initialisers::{Designation, Designator, Init};
 use crate::statements::{BlockItem, Stmt};
 use ck_base::Token;
 use std::alloc::Allocator;
@@ -24,6 +24,27 @@ impl<A: Allocator> Designator<A> {
             Designator::DotName { dot, .. } => *dot,
             Designator::AtIndex { opening, .. } => *opening,
         }
+    }
+
+    /// The last token of the designator.
+    pub fn last_token(&self) -> Token
+        ensures { (before : _) (rest : plain.Designators) (more : _)
+            → last_after before (tokens.designators (designator_before self.now rest) more)
+            ≡ last_after (Some result) (tokens.designators rest more) }
+    {
+        match self {
+            Designator::DotName { name, .. } => *name,
+            Designator::AtIndex { closing, .. } => *closing,
+        }
+    }
+}
+
+impl<A: Allocator> Designation<A> {
+    /// The last token of the designation, its `=`.
+    pub fn last_token(&self) -> Token
+        ensures { IsLast (Some result) (tokens.designators (designation_tree self.now)) }
+    {
+        self.equals
     }
 }
 
