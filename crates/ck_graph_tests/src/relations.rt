@@ -14,8 +14,31 @@ fn relation(pairs: &[(usize, usize)]) -> Rows {
 
 type Pairs = &'static [(usize, usize)];
 
+/// Each number with itself.
+const SAME: Pairs = &[
+    (0, 0),
+    (1, 1),
+    (2, 2),
+    (3, 3),
+    (4, 4),
+    (5, 5),
+    (6, 6),
+    (7, 7),
+    (8, 8),
+    (9, 9),
+    (10, 10),
+    (11, 11),
+    (12, 12),
+    (13, 13),
+    (14, 14),
+    (15, 15),
+];
+
 /// Two relations, and their composition, the first one first.
-const COMPOSITIONS: [(Pairs, Pairs, Pairs); 2] = [
+const COMPOSITIONS: [(Pairs, Pairs, Pairs); 5] = [
+    (&[(0, 1), (0, 2)], &[(1, 3), (2, 0)], &[(0, 0), (0, 3)]),
+    (SAME, &[(1, 3), (2, 0)], &[(1, 3), (2, 0)]),
+    (&[(1, 3), (2, 0)], SAME, &[(1, 3), (2, 0)]),
     (
         &[(0, 1), (0, 2), (15, 15)],
         &[(1, 3), (2, 3), (4, 5), (15, 0)],
@@ -33,7 +56,13 @@ fn compositions_and_images(rt: HostRuntime) {
 }
 
 /// Two relations, whether the second adds a pair to the first, and their union.
-const UNIONS: [(Pairs, Pairs, bool, Pairs); 2] = [
+const UNIONS: [(Pairs, Pairs, bool, Pairs); 3] = [
+    (
+        &[(1, 3), (2, 0)],
+        &[(1, 3), (2, 0)],
+        false,
+        &[(1, 3), (2, 0)],
+    ),
     (&[(0, 1), (0, 2)], &[(0, 2)], false, &[(0, 1), (0, 2)]),
     (
         &[(0, 1), (15, 15)],
