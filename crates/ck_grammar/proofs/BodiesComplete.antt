@@ -48,6 +48,16 @@ declarators_read w r n naming (Also comma d rest) semicolon ts (suc f) reads h n
     (omega (arith, fuel, longer_declarator d (declarators rest (semicolon ∷ ts)))) in
     rw (h.0, read, again) refl
 
+-- a member declaration has at least a token, its `;`
+longer_member : (x : Specifiers) (d : Declarator) (ds : Declarators) (semicolon : Token) (rest : Members)
+    (us : List Token) → suc (length (members rest us)) ≤ length (members (Member x d ds semicolon rest) us)
+longer_member x d ds semicolon rest us = omega (
+  arith,
+  longer_specifiers x (declarator d (declarators ds (semicolon ∷ members rest us))),
+  longer_declarator d (declarators ds (semicolon ∷ members rest us)),
+  longer_declarators ds (semicolon ∷ members rest us),
+)
+
 member_loop_read : (w : Token → Word) (s : Reader Specifiers) (r : Reader Declarator) (n : ℕ) (m : Members) (c : Token)
     (more : List Token) (f : ℕ)
     → ReadsSpecifiers w n InType s → ReadsDeclarators w n MemberName r
@@ -57,13 +67,7 @@ member_loop_read : (w : Token → Word) (s : Reader Specifiers) (r : Reader Decl
 member_loop_read w s r n NoMembers c more zero reads_s reads_d none h nests close fuel = refl
 member_loop_read w s r n NoMembers c more (suc f) reads_s reads_d none h nests close fuel = rw (none c more close) refl
 member_loop_read w s r n (Member x d ds semicolon rest) c more zero reads_s reads_d none h nests close fuel =
-    absurd (omega (
-      arith,
-      fuel,
-      longer_specifiers x (declarator d (declarators ds (semicolon ∷ members rest (c ∷ more)))),
-      longer_declarator d (declarators ds (semicolon ∷ members rest (c ∷ more))),
-      longer_declarators ds (semicolon ∷ members rest (c ∷ more)),
-    ))
+    absurd (omega (arith, fuel, longer_member x d ds semicolon rest (c ∷ more)))
 member_loop_read w s r n (Member x d ds semicolon rest) c more (suc f) reads_s reads_d none h nests close fuel =
     let stop = declarators_stop w MemberName ds semicolon (members rest (c ∷ more)) h.1 h.2 in
     let first : s (specifiers x (declarator d (declarators ds (semicolon ∷ members rest (c ∷ more))))) ≡ Some
@@ -82,13 +86,7 @@ member_loop_read w s r n (Member x d ds semicolon rest) c more (suc f) reads_s r
     (omega arith) in
     let again : member_loop w s r f (members rest (c ∷ more)) ≡ (rest, c ∷ more) =
     member_loop_read w s r n rest c more f reads_s reads_d none h.3 (omega (arith, nests)) close
-    (omega (
-      arith,
-      fuel,
-      longer_specifiers x (declarator d (declarators ds (semicolon ∷ members rest (c ∷ more)))),
-      longer_declarator d (declarators ds (semicolon ∷ members rest (c ∷ more))),
-      longer_declarators ds (semicolon ∷ members rest (c ∷ more)),
-    )) in
+    (omega (arith, fuel, longer_member x d ds semicolon rest (c ∷ more))) in
     rw (first, second, third, h.2, again) refl
 
 pub members_read : (w : Token → Word) (s : Reader Specifiers) (r : Reader Declarator) (n : ℕ)

@@ -21,7 +21,7 @@ use Rattle.ck_grammar.specs.ReadingStatements.{declares, declaration_at, is_labe
 use Rattle.ck_grammar.specs.ReadingTypes.{begins_with}
 use Rattle.ck_grammar.specs.Specified.{Place}
 use Rattle.ck_grammar.specs.Statements.{Declared, MoreDeclared, Declaration, Plainly, Initialised, NoMoreDeclared}
-use Rattle.ck_grammar.specs.Statements.{AndPlainly, AndInitialised, Bare, Declares}
+use Rattle.ck_grammar.specs.Statements.{Init, AndPlainly, AndInitialised, Bare, Declares}
 use Rattle.ck_grammar.specs.StatementsFitting.{FitsMoreDeclared, FitsDeclared, FitsDeclaration, names_after, is_typedef}
 use Rattle.ck_grammar.specs.StatementsNesting.{more_declared_nesting, declared_nesting, declaration_nesting}
 use Rattle.ck_grammar.specs.StatementsWritten.{init, more_declared, declared, declaration}
@@ -110,6 +110,29 @@ pub and_false : (a : Bool) → (a && false) ≡ false
 and_false true = refl
 and_false false = refl
 
+-- a further declarator with an initialiser is read where what is after it is
+more_read-initialised : (bytes : List ℕ) (n : ℕ) (types : Bool) (f : ℕ) (typedefs : List (List ℕ)) (comma : Token)
+    (d : Declarator) (eq : Token) (i : Init) (rest : MoreDeclared) (semicolon : Token) (more : List Token)
+    → FitsMoreDeclared bytes typedefs types (AndInitialised comma d eq i rest)
+    → more_declared_nesting (AndInitialised comma d eq i rest) ≤ n
+    → word_of bytes typedefs semicolon ≡ Fixed (codes ";")
+    → read_more_declared bytes n types f typedefs (more_declared rest (semicolon ∷ more)) ≡ (rest, semicolon ∷ more)
+    → read_more_declared bytes n types (suc f) typedefs
+    (more_declared (AndInitialised comma d eq i rest) (semicolon ∷ more))
+    ≡ (AndInitialised comma d eq i rest, semicolon ∷ more)
+more_read-initialised bytes n types f typedefs comma d eq i rest semicolon more h nests close again =
+    let first : declarator_at (word_of bytes typedefs) n NewName
+    (declarator d (eq ∷ init i (more_declared rest (semicolon ∷ more)))) ≡ Some
+    (d, eq ∷ init i (more_declared rest (semicolon ∷ more))) =
+    (all_read (word_of bytes typedefs) n).decls NewName d (eq ∷ init i (more_declared rest (semicolon ∷ more))) h.1
+    (omega (arith, nests)) (rw h.3 refl) in
+    let test : (not types && is_text (codes "=") (word_of bytes typedefs eq)) ≡ true = rw (h.2, h.3) refl in
+    let second : init_at (word_of bytes typedefs) n (init i (more_declared rest (semicolon ∷ more))) ≡ Some
+    (i, more_declared rest (semicolon ∷ more)) =
+    init_read (word_of bytes typedefs) n i (more_declared rest (semicolon ∷ more)) h.4 (omega (arith, nests))
+    (more_stops bytes typedefs types rest semicolon more h.5 close) in
+    rw (h.0, first, test, h.3, second, again) refl
+
 more_read : (bytes : List ℕ) (n : ℕ) (types : Bool) (f : ℕ) (typedefs : List (List ℕ)) (m : MoreDeclared)
     (semicolon : Token) (more : List Token)
     → FitsMoreDeclared bytes typedefs types m → more_declared_nesting m ≤ n
@@ -137,26 +160,14 @@ more_read bytes n types (suc f) typedefs (AndPlainly comma d rest) semicolon mor
       again,
     ) refl
 more_read bytes n types (suc f) typedefs (AndInitialised comma d eq i rest) semicolon more h nests close fuel =
-    let first : declarator_at (word_of bytes typedefs) n NewName
-    (declarator d (eq ∷ init i (more_declared rest (semicolon ∷ more)))) ≡ Some
-    (d, eq ∷ init i (more_declared rest (semicolon ∷ more))) =
-    (all_read (word_of bytes typedefs) n).decls NewName d (eq ∷ init i (more_declared rest (semicolon ∷ more))) h.1
-    (omega (arith, nests)) (rw h.3 refl) in
-    let test : (not types && is_text (codes "=") (word_of bytes typedefs eq)) ≡ true = rw (h.2, h.3) refl in
-    let second : init_at (word_of bytes typedefs) n (init i (more_declared rest (semicolon ∷ more))) ≡ Some
-    (i, more_declared rest (semicolon ∷ more)) =
-    init_read (word_of bytes typedefs) n i (more_declared rest (semicolon ∷ more)) h.4 (omega (arith, nests))
-    (more_stops bytes typedefs types rest semicolon more h.5 close) in
-    let again : read_more_declared bytes n types f typedefs
-    (more_declared rest (semicolon ∷ more)) ≡ (rest, semicolon ∷ more) =
-    more_read bytes n types f typedefs rest semicolon more h.5 (omega (arith, nests)) close
+    more_read-initialised bytes n types f typedefs comma d eq i rest semicolon more h nests close
+    (more_read bytes n types f typedefs rest semicolon more h.5 (omega (arith, nests)) close
     (omega (
       arith,
       fuel,
       longer_declarator d (eq ∷ init i (more_declared rest (semicolon ∷ more))),
       longer_init i (more_declared rest (semicolon ∷ more)),
-    )) in
-    rw (h.0, first, test, h.3, second, again) refl
+    )))
 more_read bytes n types _ typedefs _ semicolon more h nests close fuel = absurd (omega (arith, fuel))
 
 declared_read : (bytes : List ℕ) (n : ℕ) (types : Bool) (typedefs : List (List ℕ)) (x : Declared) (semicolon : Token)

@@ -15,12 +15,42 @@ use Rattle.ck_grammar.specs.Specified.{Place, InFile}
 use Rattle.ck_grammar.specs.Spelling.{most, SpellsDeclaration, SpellsStatement, SpellsExternal, SpellsFile}
 use Rattle.ck_grammar.specs.Spelling.{OneDeclaration, OneStatement, OneExternal, OneFile}
 use Rattle.ck_grammar.specs.Statements.{Declaration, Statement, External, Bare, Declares, FileDeclaration}
-use Rattle.ck_grammar.specs.Statements.{FunctionDefinition}
+use Rattle.ck_grammar.specs.Statements.{BlockItems, FunctionDefinition}
 use Rattle.ck_grammar.specs.StatementsFitting.{FitsExternal, FitsFile, names_after, is_typedef, shape, external_after}
 use Rattle.ck_grammar.specs.StatementsNesting.{external_nesting, file_nesting}
 use Rattle.ck_grammar.specs.StatementsWritten.{declared, items, external, file}
+use Rattle.ck_grammar.specs.Trees.{Specifiers, Declarator}
 use Rattle.ck_grammar.specs.Words.{word_of}
 use Rattle.ck_grammar.specs.Written.{specifiers, declarator}
+
+-- a function's definition is read, whatever is after it
+function_read : (bytes : List ℕ) (typedefs : List (List ℕ)) (n : ℕ) (s : Specifiers) (d : Declarator) (o : Token)
+    (is : BlockItems) (c : Token) (more : List Token)
+    → FitsExternal bytes typedefs (FunctionDefinition s d o is c)
+    → external_nesting (FunctionDefinition s d o is c) ≤ suc n
+    → external_at bytes typedefs n (external (FunctionDefinition s d o is c) more)
+    ≡ Some (FunctionDefinition s d o is c, more)
+function_read bytes typedefs n s d o is c more h nests =
+    let w = word_of bytes typedefs in
+    let first : specifiers_at (word_of bytes typedefs) (suc n) InFile
+    (specifiers s (declarator d (o ∷ items is (c ∷ more)))) ≡ Some (s, declarator d (o ∷ items is (c ∷ more))) =
+    (all_read w (suc n)).specs InFile s (declarator d (o ∷ items is (c ∷ more))) h.0.0 h.0.1 (omega (arith, nests))
+    (new_name_ends w d (o ∷ items is (c ∷ more)) h.1.0) in
+    let second : declarator_at (word_of bytes typedefs) (suc n) NewName (declarator d (o ∷ items is (c ∷ more))) ≡ Some
+    (d, o ∷ items is (c ∷ more)) =
+    (all_read w (suc n)).decls NewName d (o ∷ items is (c ∷ more)) h.1.0 (omega (arith, nests)) (rw h.2 refl) in
+    let test : (not (is_typedef (word_of bytes typedefs) s) && is_function (shape d)) ≡ true = rw (h.0.2, h.1.1) refl in
+    let third : body_at bytes typedefs n (items is (c ∷ more)) ≡ (is, c ∷ more) =
+    body_read bytes typedefs n is c more h.3 (omega (arith, nests)) h.4 in
+    rw (
+      first,
+      new_name_comes_not w d (o ∷ items is (c ∷ more)) ";" h.1.0 refl refl,
+      second,
+      h.2,
+      test,
+      third,
+      h.4,
+    ) refl
 
 -- an external declaration is read, whatever is after it
 pub external_read : (bytes : List ℕ) (typedefs : List (List ℕ)) (n : ℕ) (x : External) (more : List Token)
@@ -51,26 +81,7 @@ external_read bytes typedefs n (FileDeclaration (Declares s d rest semicolon)) m
       declares_read bytes typedefs (suc n) s d rest semicolon more h.2 (omega (arith, nests)) h.3,
     ) refl
 external_read bytes typedefs n (FunctionDefinition s d o is c) more h nests =
-    let w = word_of bytes typedefs in
-    let first : specifiers_at (word_of bytes typedefs) (suc n) InFile
-    (specifiers s (declarator d (o ∷ items is (c ∷ more)))) ≡ Some (s, declarator d (o ∷ items is (c ∷ more))) =
-    (all_read w (suc n)).specs InFile s (declarator d (o ∷ items is (c ∷ more))) h.0.0 h.0.1 (omega (arith, nests))
-    (new_name_ends w d (o ∷ items is (c ∷ more)) h.1.0) in
-    let second : declarator_at (word_of bytes typedefs) (suc n) NewName (declarator d (o ∷ items is (c ∷ more))) ≡ Some
-    (d, o ∷ items is (c ∷ more)) =
-    (all_read w (suc n)).decls NewName d (o ∷ items is (c ∷ more)) h.1.0 (omega (arith, nests)) (rw h.2 refl) in
-    let test : (not (is_typedef (word_of bytes typedefs) s) && is_function (shape d)) ≡ true = rw (h.0.2, h.1.1) refl in
-    let third : body_at bytes typedefs n (items is (c ∷ more)) ≡ (is, c ∷ more) =
-    body_read bytes typedefs n is c more h.3 (omega (arith, nests)) h.4 in
-    rw (
-      first,
-      new_name_comes_not w d (o ∷ items is (c ∷ more)) ";" h.1.0 refl refl,
-      second,
-      h.2,
-      test,
-      third,
-      h.4,
-    ) refl
+    function_read bytes typedefs n s d o is c more h nests
 
 pub file_read : (bytes : List ℕ) (n f : ℕ) (typedefs : List (List ℕ)) (xs : List External)
     → FitsFile bytes typedefs xs → file_nesting xs ≤ suc n → length (file xs []) ≤ f

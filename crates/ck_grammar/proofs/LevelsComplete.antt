@@ -52,6 +52,27 @@ abbrev Below : (Token → Word) → (ℕ → Reader Expr) → Reader (Specifiers
 Below w p ty n j = (e : Expr) (ts : List Token) → Fits w e → nesting e ≤ suc n → precedence w e ≤ j → StopsAt w j ts
     → level_reader w p ty n j (written e ts) ≡ Some (e, ts)
 
+-- a conditional expression is read at its own level
+same_level-conditional : (w : Token → Word) (p : ℕ → Reader Expr) (ty : Reader (Specifiers × Declarator)) (n j : ℕ)
+    (e : Expr) (q : Token) (a : Expr) (c : Token) (b : Expr) (ts : List Token)
+    → Exact w n p → Below w p ty n j → j ≤ 12 → suc j ≤ precedence w (Conditional e q a c b)
+    → precedence w (Conditional e q a c b) ≤ suc j → Fits w (Conditional e q a c b)
+    → nesting (Conditional e q a c b) ≤ suc n → StopsAt w (suc j) ts
+    → level_reader w p ty n (suc j) (written (Conditional e q a c b) ts) ≡ Some (Conditional e q a c b, ts)
+same_level-conditional w p ty n j e q a c b ts exact below bound low high h nests stop =
+    let ten : j ≡ 10 = omega (arith, low, high) in
+    let ten' : nat_eq j 10 ≡ true = rw ten (same 10) in
+    let first : level_reader w p ty n j (written e (q ∷ written a (c ∷ written b ts))) ≡ Some
+    (e, q ∷ written a (c ∷ written b ts)) = below e (q ∷ written a (c ∷ written b ts)) h.0.0 (omega (arith, nests))
+    (omega (arith, h.0.1, ten)) (rw ten (at_question w q (written a (c ∷ written b ts)) h.1)) in
+    let shallow : nat_le (nesting e) n ≡ true = le-leb (nesting e) n (omega (arith, nests)) in
+    let middle : p 13 (written a (c ∷ written b ts)) ≡ Some (a, c ∷ written b ts) =
+    exact 13 (omega arith) a (c ∷ written b ts) h.2 (omega (arith, nests)) (loosest w a h.2)
+    (at_colon w c (written b ts) 13 (omega arith) h.3) in
+    let last : p 11 (written b ts) ≡ Some (b, ts) = exact 11 (omega arith) b ts h.4.0 (omega (arith, nests)) h.4.1
+    (stops_below w 11 (suc j) ts (omega (arith, ten)) stop) in
+    rw (first, shallow, ten', h.1, middle, h.3, last) refl
+
 same_level : (w : Token → Word) (p : ℕ → Reader Expr) (ty : Reader (Specifiers × Declarator)) (n j : ℕ) (e : Expr)
     (ts : List Token)
     → Exact w n p → Below w p ty n j → j ≤ 12 → suc j ≤ precedence w e → precedence w e ≤ suc j → Fits w e
@@ -70,18 +91,7 @@ same_level w p ty n j (Chain e ops) ts exact below bound low high h nests stop =
     (omega (arith, nests)) stop (omega arith) in
     rw (first, shallow, no_choice j chains, no_assignment j chains, all, chain_has_operand w ops h.0) refl
 same_level w p ty n j (Conditional e q a c b) ts exact below bound low high h nests stop =
-    let ten : j ≡ 10 = omega (arith, low, high) in
-    let ten' : nat_eq j 10 ≡ true = rw ten (same 10) in
-    let first : level_reader w p ty n j (written e (q ∷ written a (c ∷ written b ts))) ≡ Some
-    (e, q ∷ written a (c ∷ written b ts)) = below e (q ∷ written a (c ∷ written b ts)) h.0.0 (omega (arith, nests))
-    (omega (arith, h.0.1, ten)) (rw ten (at_question w q (written a (c ∷ written b ts)) h.1)) in
-    let shallow : nat_le (nesting e) n ≡ true = le-leb (nesting e) n (omega (arith, nests)) in
-    let middle : p 13 (written a (c ∷ written b ts)) ≡ Some (a, c ∷ written b ts) =
-    exact 13 (omega arith) a (c ∷ written b ts) h.2 (omega (arith, nests)) (loosest w a h.2)
-    (at_colon w c (written b ts) 13 (omega arith) h.3) in
-    let last : p 11 (written b ts) ≡ Some (b, ts) = exact 11 (omega arith) b ts h.4.0 (omega (arith, nests)) h.4.1
-    (stops_below w 11 (suc j) ts (omega (arith, ten)) stop) in
-    rw (first, shallow, ten', h.1, middle, h.3, last) refl
+    same_level-conditional w p ty n j e q a c b ts exact below bound low high h nests stop
 same_level w p ty n j (Assignment e op b) ts exact below bound low high h nests stop =
     let eleven : j ≡ 11 = omega (arith, low, high) in
     let not_ten : nat_eq j 10 ≡ false = rw eleven refl in

@@ -327,6 +327,53 @@ more_keeps w p n j e r le sound =
     (operand_loop_keeps w p n j (length r) r le sound))))
     (λ _. omega arith)
 
+-- a conditional expression at its own level
+same_level_reach-conditional : (w : Token → Word) (p : ℕ → Reader Expr) (ty : Reader (Specifiers × Declarator))
+    (n j : ℕ)
+    (e : Expr) (q : Token) (a : Expr) (c : Token) (b : Expr) (ts : List Token)
+    → Exact w n p → SoundExprs w n p → ReachesExprs w n p → ReadsTypes w n ty → OpensTypes w → j ≤ 12
+    → suc j ≤ precedence w (Conditional e q a c b) → precedence w (Conditional e q a c b) ≤ suc j
+    → Fits w (Conditional e q a c b) → nesting (Conditional e q a c b) ≤ suc n
+    → Reaches (length ts) (level_reader w p ty n (suc j) (written (Conditional e q a c b) ts))
+same_level_reach-conditional w p ty n j e q a c b ts exact sound reach types opens bound low high h nests =
+    let ten : j ≡ 10 = omega (arith, low, high) in
+    let ten' : nat_eq j 10 ≡ true = rw ten (same 10) in
+    let first : level_reader w p ty n j (written e (q ∷ written a (c ∷ written b ts))) ≡ Some
+    (e, q ∷ written a (c ∷ written b ts)) =
+    level_read w p ty n j exact types opens (omega (arith, bound)) e (q ∷ written a (c ∷ written b ts)) h.0.0
+    (omega (arith, nests)) (omega (arith, h.0.1, ten))
+    (rw ten (at_question w q (written a (c ∷ written b ts)) h.1)) in
+    let shallow : nat_le (nesting e) n ≡ true = le-leb (nesting e) n (omega (arith, nests)) in
+    let middle : p 13 (written a (c ∷ written b ts)) ≡ Some (a, c ∷ written b ts) =
+    exact 13 (omega arith) a (c ∷ written b ts) h.2 (omega (arith, nests)) (loosest w a h.2)
+    (at_colon w c (written b ts) 13 (omega arith) h.3) in
+    rw (first, shallow, ten', h.1, middle, h.3)
+    (else_reach (length ts) (e, q ∷ written a (c ∷ written b ts)) _
+    (reach_then (length ts) (length ts) (IsExpr w n 11 (written b ts)) (p 11 (written b ts)) _
+    (sound 11 (omega arith) (written b ts)) (reach 11 (omega arith) b ts h.4.0 (omega (arith, nests)) h.4.1)
+    (λ f r is le. le)))
+
+-- an assignment at its own level
+same_level_reach-assignment : (w : Token → Word) (p : ℕ → Reader Expr) (ty : Reader (Specifiers × Declarator)) (n j : ℕ)
+    (e : Expr) (op : Token) (b : Expr) (ts : List Token)
+    → Exact w n p → SoundExprs w n p → ReachesExprs w n p → ReadsTypes w n ty → OpensTypes w → j ≤ 12
+    → suc j ≤ precedence w (Assignment e op b) → precedence w (Assignment e op b) ≤ suc j
+    → Fits w (Assignment e op b) → nesting (Assignment e op b) ≤ suc n
+    → Reaches (length ts) (level_reader w p ty n (suc j) (written (Assignment e op b) ts))
+same_level_reach-assignment w p ty n j e op b ts exact sound reach types opens bound low high h nests =
+    let eleven : j ≡ 11 = omega (arith, low, high) in
+    let not_ten : nat_eq j 10 ≡ false = rw eleven refl in
+    let eleven' : nat_eq j 11 ≡ true = rw eleven (same 11) in
+    let first : level_reader w p ty n j (written e (op ∷ written b ts)) ≡ Some (e, op ∷ written b ts) =
+    level_read w p ty n j exact types opens (omega (arith, bound)) e (op ∷ written b ts) h.0.0 (omega (arith, nests))
+    (omega (arith, unary_is_tight w e h.0.1)) (at_operator w op (written b ts) j 12 (omega (arith, eleven)) h.1) in
+    let shallow : nat_le (nesting e) n ≡ true = le-leb (nesting e) n (omega (arith, nests)) in
+    rw (first, shallow, not_ten, eleven', h.1, h.0.1)
+    (else_reach (length ts) (e, op ∷ written b ts) _
+    (reach_then (length ts) (length ts) (IsExpr w n 12 (written b ts)) (p 12 (written b ts)) _
+    (sound 12 (omega arith) (written b ts)) (reach 12 (omega arith) b ts h.2.0 (omega (arith, nests)) h.2.1)
+    (λ f r is le. le)))
+
 -- a level at which the tree itself is
 same_level_reach : (w : Token → Word) (p : ℕ → Reader Expr) (ty : Reader (Specifiers × Declarator)) (n j : ℕ) (e : Expr)
     (ts : List Token)
@@ -354,35 +401,9 @@ same_level_reach w p ty n j (Chain e (Operand op a rest)) ts exact sound reach t
     (operands_reach w p n j ops ts (length (operands ops ts)) (omega (arith, bound)) exact sound reach fits
     (omega (arith, nests)) (omega arith))
 same_level_reach w p ty n j (Conditional e q a c b) ts exact sound reach types opens bound low high h nests =
-    let ten : j ≡ 10 = omega (arith, low, high) in
-    let ten' : nat_eq j 10 ≡ true = rw ten (same 10) in
-    let first : level_reader w p ty n j (written e (q ∷ written a (c ∷ written b ts))) ≡ Some
-    (e, q ∷ written a (c ∷ written b ts)) =
-    level_read w p ty n j exact types opens (omega (arith, bound)) e (q ∷ written a (c ∷ written b ts)) h.0.0
-    (omega (arith, nests)) (omega (arith, h.0.1, ten))
-    (rw ten (at_question w q (written a (c ∷ written b ts)) h.1)) in
-    let shallow : nat_le (nesting e) n ≡ true = le-leb (nesting e) n (omega (arith, nests)) in
-    let middle : p 13 (written a (c ∷ written b ts)) ≡ Some (a, c ∷ written b ts) =
-    exact 13 (omega arith) a (c ∷ written b ts) h.2 (omega (arith, nests)) (loosest w a h.2)
-    (at_colon w c (written b ts) 13 (omega arith) h.3) in
-    rw (first, shallow, ten', h.1, middle, h.3)
-    (else_reach (length ts) (e, q ∷ written a (c ∷ written b ts)) _
-    (reach_then (length ts) (length ts) (IsExpr w n 11 (written b ts)) (p 11 (written b ts)) _
-    (sound 11 (omega arith) (written b ts)) (reach 11 (omega arith) b ts h.4.0 (omega (arith, nests)) h.4.1)
-    (λ f r is le. le)))
+    same_level_reach-conditional w p ty n j e q a c b ts exact sound reach types opens bound low high h nests
 same_level_reach w p ty n j (Assignment e op b) ts exact sound reach types opens bound low high h nests =
-    let eleven : j ≡ 11 = omega (arith, low, high) in
-    let not_ten : nat_eq j 10 ≡ false = rw eleven refl in
-    let eleven' : nat_eq j 11 ≡ true = rw eleven (same 11) in
-    let first : level_reader w p ty n j (written e (op ∷ written b ts)) ≡ Some (e, op ∷ written b ts) =
-    level_read w p ty n j exact types opens (omega (arith, bound)) e (op ∷ written b ts) h.0.0 (omega (arith, nests))
-    (omega (arith, unary_is_tight w e h.0.1)) (at_operator w op (written b ts) j 12 (omega (arith, eleven)) h.1) in
-    let shallow : nat_le (nesting e) n ≡ true = le-leb (nesting e) n (omega (arith, nests)) in
-    rw (first, shallow, not_ten, eleven', h.1, h.0.1)
-    (else_reach (length ts) (e, op ∷ written b ts) _
-    (reach_then (length ts) (length ts) (IsExpr w n 12 (written b ts)) (p 12 (written b ts)) _
-    (sound 12 (omega arith) (written b ts)) (reach 12 (omega arith) b ts h.2.0 (omega (arith, nests)) h.2.1)
-    (λ f r is le. le)))
+    same_level_reach-assignment w p ty n j e op b ts exact sound reach types opens bound low high h nests
 same_level_reach w p ty n j _ ts exact sound reach types opens bound low high h nests = absurd (omega (arith, low))
 
 pub level_reach : (w : Token → Word) (p : ℕ → Reader Expr) (ty : Reader (Specifiers × Declarator)) (n : ℕ)

@@ -173,6 +173,23 @@ enum_by : (w : Token → Word) (ms : Reader Members) (es : Reader Enumerators)
 enum_by w ms es go seen x k o None m c ts is named open_ read close = rw (is, open_, read, close) refl
 enum_by w ms es go seen x k o (Some t) m c ts is named open_ read close = rw (is, named, open_, read, close) refl
 
+-- a struct or an enum has at least a token
+longer_struct : (k : Token) (tag : Option Token) (o : Token) (m : Members) (c : Token) (rest : Specifiers)
+    (more : List Token) → suc (length (specifiers rest more)) ≤ length (specifiers (Struct k tag o m c rest) more)
+longer_struct k tag o m c rest more = omega (
+  arith,
+  longer_optional tag (o ∷ members m (c ∷ specifiers rest more)),
+  longer_members m (c ∷ specifiers rest more),
+)
+
+longer_enum : (k : Token) (tag : Option Token) (o : Token) (m : Enumerators) (c : Token) (rest : Specifiers)
+    (more : List Token) → suc (length (specifiers rest more)) ≤ length (specifiers (Enum k tag o m c rest) more)
+longer_enum k tag o m c rest more = omega (
+  arith,
+  longer_optional tag (o ∷ enumerators m (c ∷ specifiers rest more)),
+  longer_enumerators m (c ∷ specifiers rest more),
+)
+
 loop_read : (w : Token → Word) (ms : Reader Members) (es : Reader Enumerators) (n : ℕ) (seen : Bool) (s : Specifiers)
     (more : List Token) (f : ℕ)
     → ReadsMembers w n ms → ReadsEnumerators w n es → FitsEach w seen s → sees w seen s ≡ true
@@ -199,23 +216,13 @@ loop_read w ms es n seen (Struct k tag o m c rest) more (suc f) reads_m reads_e 
     (reads_m m c (specifiers rest more) h.3.0 h.3.1 (omega (arith, nests)) h.4) h.4
     ∙ ap (onto (Struct k tag o m c))
     (loop_read w ms es n true rest more f reads_m reads_e h.5 sees_it (omega (arith, nests)) stop
-    (omega (
-      arith,
-      fuel,
-      longer_optional tag (o ∷ members m (c ∷ specifiers rest more)),
-      longer_members m (c ∷ specifiers rest more),
-    )))
+    (omega (arith, fuel, longer_struct k tag o m c rest more)))
 loop_read w ms es n seen (Enum k tag o m c rest) more (suc f) reads_m reads_e h sees_it nests stop fuel =
     enum_by w ms es (specifier_loop w ms es f) seen (sort (w k)) k o tag m c (specifiers rest more) h.0 h.1 h.2
     (reads_e m c (specifiers rest more) h.3 (omega (arith, nests)) h.4) h.4
     ∙ ap (onto (Enum k tag o m c))
     (loop_read w ms es n true rest more f reads_m reads_e h.5 sees_it (omega (arith, nests)) stop
-    (omega (
-      arith,
-      fuel,
-      longer_optional tag (o ∷ enumerators m (c ∷ specifiers rest more)),
-      longer_enumerators m (c ∷ specifiers rest more),
-    )))
+    (omega (arith, fuel, longer_enum k tag o m c rest more)))
 loop_read w ms es n seen _ more _ reads_m reads_e h sees_it nests stop fuel = absurd (omega (arith, fuel))
 
 pub specifiers_read : (w : Token → Word) (ms : Reader Members) (es : Reader Enumerators) (n : ℕ) (place : Place)

@@ -115,27 +115,32 @@ items_read bytes typedefs n d s (StatementItem x rest) c more (suc f) reads_d re
     (omega (arith, fuel, longer_statement x (items rest (c ∷ more)))) in
     rw (no_declaration bytes typedefs x (items rest (c ∷ more)) h.0, read, again) refl
 
-statement_by_read : (bytes : List ℕ) (typedefs : List (List ℕ)) (n : ℕ) (p : ℕ → Reader Expr) (d : Reader Declaration)
-    (r : Reader Statement) (x : Statement) (more : List Token)
+-- an expression statement is read
+expression_statement_read : (bytes : List ℕ) (typedefs : List (List ℕ)) (n : ℕ) (p : ℕ → Reader Expr)
+    (d : Reader Declaration)
+    (r : Reader Statement) (e : Expr) (semicolon : Token) (more : List Token)
     → Exact (word_of bytes typedefs) n p → ReadsDeclarations bytes typedefs n d → ReadsStatements bytes typedefs n r
-    → NoneAtCurly bytes typedefs r
-    → FitsStatement bytes typedefs x → statement_nesting x ≤ suc n → StopsStatement (word_of bytes typedefs) x more
-    → read_statement (word_of bytes typedefs) p d r (statement x more) ≡ Some (x, more)
-statement_by_read bytes typedefs n p d r (Block o is c) more exact reads_d reads_s none h nests stop =
-    let all : item_loop (word_of bytes typedefs) d r (length (items is (c ∷ more)))
-    (items is (c ∷ more)) ≡ (is, c ∷ more) = items_read bytes typedefs n d r is c more
-    (length (items is (c ∷ more))) reads_d reads_s none h.1 (omega (arith, nests)) h.2 (omega arith) in
-    rw (h.0, all, h.2) refl
-statement_by_read bytes typedefs n p d r (Empty semicolon) more exact reads_d reads_s none h nests stop = rw h refl
-statement_by_read bytes typedefs n p d r (ExpressionStatement e semicolon) more exact reads_d reads_s none h nests
-    stop =
+    → FitsStatement bytes typedefs (ExpressionStatement e semicolon)
+    → statement_nesting (ExpressionStatement e semicolon) ≤ suc n
+    → StopsStatement (word_of bytes typedefs) (ExpressionStatement e semicolon) more
+    → read_statement (word_of bytes typedefs) p d r (statement (ExpressionStatement e semicolon) more)
+    ≡ Some (ExpressionStatement e semicolon, more)
+expression_statement_read bytes typedefs n p d r e semicolon more exact reads_d reads_s h nests stop =
     let w = word_of bytes typedefs in
     let read : p 13 (written e (semicolon ∷ more)) ≡ Some (e, semicolon ∷ more) =
     whole_read w n p e (semicolon ∷ more) exact h.0 (omega (arith, nests))
     (at_semicolon w semicolon more 13 (omega arith) h.1) in
     evaluates_read w p d r (written e (semicolon ∷ more)) (begins w e (semicolon ∷ more) h.0)
     (expression_no_label w e (semicolon ∷ more) h.0 (rw h.1 refl)) ∙ rw (read, h.1) refl
-statement_by_read bytes typedefs n p d r (If k o e c s) more exact reads_d reads_s none h nests stop =
+
+-- an `if` without `else` is read
+if_read : (bytes : List ℕ) (typedefs : List (List ℕ)) (n : ℕ) (p : ℕ → Reader Expr) (d : Reader Declaration)
+    (r : Reader Statement) (k o : Token) (e : Expr) (c : Token) (s : Statement) (more : List Token)
+    → Exact (word_of bytes typedefs) n p → ReadsDeclarations bytes typedefs n d → ReadsStatements bytes typedefs n r
+    → FitsStatement bytes typedefs (If k o e c s) → statement_nesting (If k o e c s) ≤ suc n
+    → StopsStatement (word_of bytes typedefs) (If k o e c s) more
+    → read_statement (word_of bytes typedefs) p d r (statement (If k o e c s) more) ≡ Some (If k o e c s, more)
+if_read bytes typedefs n p d r k o e c s more exact reads_d reads_s h nests stop =
     let w = word_of bytes typedefs in
     let read : p 13 (written e (c ∷ statement s more)) ≡ Some (e, c ∷ statement s more) =
     whole_read w n p e (c ∷ statement s more) exact h.0.2 (omega (arith, nests))
@@ -143,7 +148,17 @@ statement_by_read bytes typedefs n p d r (If k o e c s) more exact reads_d reads
     let then_ : r (statement s more) ≡ Some (s, more) = reads_s s more h.1 (omega (arith, nests))
     (λ open_. stop refl) in
     rw (h.0.0, h.0.1, read, h.0.3, then_, stop refl) refl
-statement_by_read bytes typedefs n p d r (IfElse k o e c s l t) more exact reads_d reads_s none h nests stop =
+
+-- an `if` with its `else` is read
+if_else_read : (bytes : List ℕ) (typedefs : List (List ℕ)) (n : ℕ) (p : ℕ → Reader Expr) (d : Reader Declaration)
+    (r : Reader Statement) (k o : Token) (e : Expr) (c : Token) (s : Statement) (l : Token) (t : Statement)
+    (more : List Token)
+    → Exact (word_of bytes typedefs) n p → ReadsDeclarations bytes typedefs n d → ReadsStatements bytes typedefs n r
+    → FitsStatement bytes typedefs (IfElse k o e c s l t) → statement_nesting (IfElse k o e c s l t) ≤ suc n
+    → StopsStatement (word_of bytes typedefs) (IfElse k o e c s l t) more
+    → read_statement (word_of bytes typedefs) p d r (statement (IfElse k o e c s l t) more)
+    ≡ Some (IfElse k o e c s l t, more)
+if_else_read bytes typedefs n p d r k o e c s l t more exact reads_d reads_s h nests stop =
     let w = word_of bytes typedefs in
     let read : p 13 (written e (c ∷ statement s (l ∷ statement t more))) ≡ Some
     (e, c ∷ statement s (l ∷ statement t more)) =
@@ -153,21 +168,47 @@ statement_by_read bytes typedefs n p d r (IfElse k o e c s l t) more exact reads
     reads_s s (l ∷ statement t more) h.1 (omega (arith, nests)) (λ open_. absurd (false≢true (sym h.2 ∙ open_))) in
     let else_ : r (statement t more) ≡ Some (t, more) = reads_s t more h.4 (omega (arith, nests)) stop in
     rw (h.0.0, h.0.1, read, h.0.3, then_, h.3, else_) refl
-statement_by_read bytes typedefs n p d r (Switch k o e c s) more exact reads_d reads_s none h nests stop =
+
+-- a `switch` is read
+switch_read : (bytes : List ℕ) (typedefs : List (List ℕ)) (n : ℕ) (p : ℕ → Reader Expr) (d : Reader Declaration)
+    (r : Reader Statement) (k o : Token) (e : Expr) (c : Token) (s : Statement) (more : List Token)
+    → Exact (word_of bytes typedefs) n p → ReadsDeclarations bytes typedefs n d → ReadsStatements bytes typedefs n r
+    → FitsStatement bytes typedefs (Switch k o e c s) → statement_nesting (Switch k o e c s) ≤ suc n
+    → StopsStatement (word_of bytes typedefs) (Switch k o e c s) more
+    → read_statement (word_of bytes typedefs) p d r (statement (Switch k o e c s) more) ≡ Some (Switch k o e c s, more)
+switch_read bytes typedefs n p d r k o e c s more exact reads_d reads_s h nests stop =
     let w = word_of bytes typedefs in
     let read : p 13 (written e (c ∷ statement s more)) ≡ Some (e, c ∷ statement s more) =
     whole_read w n p e (c ∷ statement s more) exact h.0.2 (omega (arith, nests))
     (at_round w c (statement s more) 13 (omega arith) h.0.3) in
     let body : r (statement s more) ≡ Some (s, more) = reads_s s more h.1 (omega (arith, nests)) stop in
     rw (h.0.0, h.0.1, read, h.0.3, body) refl
-statement_by_read bytes typedefs n p d r (While k o e c s) more exact reads_d reads_s none h nests stop =
+
+-- a `while` is read
+while_read : (bytes : List ℕ) (typedefs : List (List ℕ)) (n : ℕ) (p : ℕ → Reader Expr) (d : Reader Declaration)
+    (r : Reader Statement) (k o : Token) (e : Expr) (c : Token) (s : Statement) (more : List Token)
+    → Exact (word_of bytes typedefs) n p → ReadsDeclarations bytes typedefs n d → ReadsStatements bytes typedefs n r
+    → FitsStatement bytes typedefs (While k o e c s) → statement_nesting (While k o e c s) ≤ suc n
+    → StopsStatement (word_of bytes typedefs) (While k o e c s) more
+    → read_statement (word_of bytes typedefs) p d r (statement (While k o e c s) more) ≡ Some (While k o e c s, more)
+while_read bytes typedefs n p d r k o e c s more exact reads_d reads_s h nests stop =
     let w = word_of bytes typedefs in
     let read : p 13 (written e (c ∷ statement s more)) ≡ Some (e, c ∷ statement s more) =
     whole_read w n p e (c ∷ statement s more) exact h.0.2 (omega (arith, nests))
     (at_round w c (statement s more) 13 (omega arith) h.0.3) in
     let body : r (statement s more) ≡ Some (s, more) = reads_s s more h.1 (omega (arith, nests)) stop in
     rw (h.0.0, h.0.1, read, h.0.3, body) refl
-statement_by_read bytes typedefs n p d r (Do k s l o e c semicolon) more exact reads_d reads_s none h nests stop =
+
+-- a `do` is read
+do_read : (bytes : List ℕ) (typedefs : List (List ℕ)) (n : ℕ) (p : ℕ → Reader Expr) (d : Reader Declaration)
+    (r : Reader Statement) (k : Token) (s : Statement) (l o : Token) (e : Expr) (c semicolon : Token)
+    (more : List Token)
+    → Exact (word_of bytes typedefs) n p → ReadsDeclarations bytes typedefs n d → ReadsStatements bytes typedefs n r
+    → FitsStatement bytes typedefs (Do k s l o e c semicolon) → statement_nesting (Do k s l o e c semicolon) ≤ suc n
+    → StopsStatement (word_of bytes typedefs) (Do k s l o e c semicolon) more
+    → read_statement (word_of bytes typedefs) p d r (statement (Do k s l o e c semicolon) more)
+    ≡ Some (Do k s l o e c semicolon, more)
+do_read bytes typedefs n p d r k s l o e c semicolon more exact reads_d reads_s h nests stop =
     let w = word_of bytes typedefs in
     let body : r (statement s (l ∷ o ∷ written e (c ∷ semicolon ∷ more))) ≡ Some
     (s, l ∷ o ∷ written e (c ∷ semicolon ∷ more)) = reads_s s (l ∷ o ∷ written e (c ∷ semicolon ∷ more)) h.1
@@ -176,7 +217,18 @@ statement_by_read bytes typedefs n p d r (Do k s l o e c semicolon) more exact r
     whole_read w n p e (c ∷ semicolon ∷ more) exact h.2.2 (omega (arith, nests))
     (at_round w c (semicolon ∷ more) 13 (omega arith) h.2.3) in
     rw (h.0, body, h.2.0, h.2.1, read, h.2.3, h.3) refl
-statement_by_read bytes typedefs n p d r (For k o x e semicolon f c s) more exact reads_d reads_s none h nests stop =
+
+-- a `for` is read
+for_read : (bytes : List ℕ) (typedefs : List (List ℕ)) (n : ℕ) (p : ℕ → Reader Expr) (d : Reader Declaration)
+    (r : Reader Statement) (k o : Token) (x : ForStart) (e : Option Expr) (semicolon : Token) (f : Option Expr)
+    (c : Token) (s : Statement) (more : List Token)
+    → Exact (word_of bytes typedefs) n p → ReadsDeclarations bytes typedefs n d → ReadsStatements bytes typedefs n r
+    → FitsStatement bytes typedefs (For k o x e semicolon f c s)
+    → statement_nesting (For k o x e semicolon f c s) ≤ suc n
+    → StopsStatement (word_of bytes typedefs) (For k o x e semicolon f c s) more
+    → read_statement (word_of bytes typedefs) p d r (statement (For k o x e semicolon f c s) more)
+    ≡ Some (For k o x e semicolon f c s, more)
+for_read bytes typedefs n p d r k o x e semicolon f c s more exact reads_d reads_s h nests stop =
     let w = word_of bytes typedefs in
     let first : start (word_of bytes typedefs) (p 13) d
     (for_start x (maybe_written e (semicolon ∷ maybe_written f (c ∷ statement s more)))) ≡ Some
@@ -194,12 +246,75 @@ statement_by_read bytes typedefs n p d r (For k o x e semicolon f c s) more exac
     (at_round w c (statement s more) 13 (omega arith) h.6) in
     let body : r (statement s more) ≡ Some (s, more) = reads_s s more h.7 (omega (arith, nests)) stop in
     rw (h.0, h.1, first, second, h.4, third, h.6, body) refl
-statement_by_read bytes typedefs n p d r (Case k e colon s) more exact reads_d reads_s none h nests stop =
+
+-- a `case` is read
+case_read : (bytes : List ℕ) (typedefs : List (List ℕ)) (n : ℕ) (p : ℕ → Reader Expr) (d : Reader Declaration)
+    (r : Reader Statement) (k : Token) (e : Expr) (colon : Token) (s : Statement) (more : List Token)
+    → Exact (word_of bytes typedefs) n p → ReadsDeclarations bytes typedefs n d → ReadsStatements bytes typedefs n r
+    → FitsStatement bytes typedefs (Case k e colon s) → statement_nesting (Case k e colon s) ≤ suc n
+    → StopsStatement (word_of bytes typedefs) (Case k e colon s) more
+    → read_statement (word_of bytes typedefs) p d r (statement (Case k e colon s) more) ≡ Some (Case k e colon s, more)
+case_read bytes typedefs n p d r k e colon s more exact reads_d reads_s h nests stop =
     let read : p 11 (written e (colon ∷ statement s more)) ≡ Some (e, colon ∷ statement s more) =
     exact 11 (omega arith) e (colon ∷ statement s more) h.1.0 (omega (arith, nests)) h.1.1
     (at_colon (word_of bytes typedefs) colon (statement s more) 11 (omega arith) h.2) in
     let body : r (statement s more) ≡ Some (s, more) = reads_s s more h.3 (omega (arith, nests)) stop in
     rw (h.0, read, h.2, body) refl
+
+-- a `return` with a value is read
+return_read : (bytes : List ℕ) (typedefs : List (List ℕ)) (n : ℕ) (p : ℕ → Reader Expr) (d : Reader Declaration)
+    (r : Reader Statement) (k : Token) (e : Expr) (semicolon : Token) (more : List Token)
+    → Exact (word_of bytes typedefs) n p → ReadsDeclarations bytes typedefs n d → ReadsStatements bytes typedefs n r
+    → FitsStatement bytes typedefs (ReturnValue k e semicolon) → statement_nesting (ReturnValue k e semicolon) ≤ suc n
+    → StopsStatement (word_of bytes typedefs) (ReturnValue k e semicolon) more
+    → read_statement (word_of bytes typedefs) p d r (statement (ReturnValue k e semicolon) more)
+    ≡ Some (ReturnValue k e semicolon, more)
+return_read bytes typedefs n p d r k e semicolon more exact reads_d reads_s h nests stop =
+    let w = word_of bytes typedefs in
+    let read : p 13 (written e (semicolon ∷ more)) ≡ Some (e, semicolon ∷ more) =
+    whole_read w n p e (semicolon ∷ more) exact h.1 (omega (arith, nests))
+    (at_semicolon w semicolon more 13 (omega arith) h.2) in
+    rw (h.0, begins w e (semicolon ∷ more) h.1, read, h.2) refl
+
+-- a block is read
+block_read : (bytes : List ℕ) (typedefs : List (List ℕ)) (n : ℕ) (p : ℕ → Reader Expr) (d : Reader Declaration)
+    (r : Reader Statement) (o : Token) (is : BlockItems) (c : Token) (more : List Token)
+    → Exact (word_of bytes typedefs) n p → ReadsDeclarations bytes typedefs n d → ReadsStatements bytes typedefs n r
+    → NoneAtCurly bytes typedefs r
+    → FitsStatement bytes typedefs (Block o is c) → statement_nesting (Block o is c) ≤ suc n
+    → StopsStatement (word_of bytes typedefs) (Block o is c) more
+    → read_statement (word_of bytes typedefs) p d r (statement (Block o is c) more) ≡ Some (Block o is c, more)
+block_read bytes typedefs n p d r o is c more exact reads_d reads_s none h nests stop =
+    let all : item_loop (word_of bytes typedefs) d r (length (items is (c ∷ more)))
+    (items is (c ∷ more)) ≡ (is, c ∷ more) = items_read bytes typedefs n d r is c more
+    (length (items is (c ∷ more))) reads_d reads_s none h.1 (omega (arith, nests)) h.2 (omega arith) in
+    rw (h.0, all, h.2) refl
+
+statement_by_read : (bytes : List ℕ) (typedefs : List (List ℕ)) (n : ℕ) (p : ℕ → Reader Expr) (d : Reader Declaration)
+    (r : Reader Statement) (x : Statement) (more : List Token)
+    → Exact (word_of bytes typedefs) n p → ReadsDeclarations bytes typedefs n d → ReadsStatements bytes typedefs n r
+    → NoneAtCurly bytes typedefs r
+    → FitsStatement bytes typedefs x → statement_nesting x ≤ suc n → StopsStatement (word_of bytes typedefs) x more
+    → read_statement (word_of bytes typedefs) p d r (statement x more) ≡ Some (x, more)
+statement_by_read bytes typedefs n p d r (Block o is c) more exact reads_d reads_s none h nests stop =
+    block_read bytes typedefs n p d r o is c more exact reads_d reads_s none h nests stop
+statement_by_read bytes typedefs n p d r (Empty semicolon) more exact reads_d reads_s none h nests stop = rw h refl
+statement_by_read bytes typedefs n p d r (ExpressionStatement e end) more exact reads_d reads_s none h nests stop =
+    expression_statement_read bytes typedefs n p d r e end more exact reads_d reads_s h nests stop
+statement_by_read bytes typedefs n p d r (If k o e c s) more exact reads_d reads_s none h nests stop =
+    if_read bytes typedefs n p d r k o e c s more exact reads_d reads_s h nests stop
+statement_by_read bytes typedefs n p d r (IfElse k o e c s l t) more exact reads_d reads_s none h nests stop =
+    if_else_read bytes typedefs n p d r k o e c s l t more exact reads_d reads_s h nests stop
+statement_by_read bytes typedefs n p d r (Switch k o e c s) more exact reads_d reads_s none h nests stop =
+    switch_read bytes typedefs n p d r k o e c s more exact reads_d reads_s h nests stop
+statement_by_read bytes typedefs n p d r (While k o e c s) more exact reads_d reads_s none h nests stop =
+    while_read bytes typedefs n p d r k o e c s more exact reads_d reads_s h nests stop
+statement_by_read bytes typedefs n p d r (Do k s l o e c semicolon) more exact reads_d reads_s none h nests stop =
+    do_read bytes typedefs n p d r k s l o e c semicolon more exact reads_d reads_s h nests stop
+statement_by_read bytes typedefs n p d r (For k o x e semicolon f c s) more exact reads_d reads_s none h nests stop =
+    for_read bytes typedefs n p d r k o x e semicolon f c s more exact reads_d reads_s h nests stop
+statement_by_read bytes typedefs n p d r (Case k e colon s) more exact reads_d reads_s none h nests stop =
+    case_read bytes typedefs n p d r k e colon s more exact reads_d reads_s h nests stop
 statement_by_read bytes typedefs n p d r (Default k colon s) more exact reads_d reads_s none h nests stop =
     let body : r (statement s more) ≡ Some (s, more) = reads_s s more h.2 (omega (arith, nests)) stop in
     rw (h.0, h.1, body) refl
@@ -213,11 +328,7 @@ statement_by_read bytes typedefs n p d r (Jump k semicolon) more exact reads_d r
 statement_by_read bytes typedefs n p d r (Return k semicolon) more exact reads_d reads_s none h nests stop =
     rw (h.0, h.1) refl
 statement_by_read bytes typedefs n p d r (ReturnValue k e semicolon) more exact reads_d reads_s none h nests stop =
-    let w = word_of bytes typedefs in
-    let read : p 13 (written e (semicolon ∷ more)) ≡ Some (e, semicolon ∷ more) =
-    whole_read w n p e (semicolon ∷ more) exact h.1 (omega (arith, nests))
-    (at_semicolon w semicolon more 13 (omega arith) h.2) in
-    rw (h.0, begins w e (semicolon ∷ more) h.1, read, h.2) refl
+    return_read bytes typedefs n p d r k e semicolon more exact reads_d reads_s h nests stop
 
 no_statement : (s : Statement) → statement_nesting s ≤ 0 → ⊥
 no_statement (Block o is c) h = omega (arith, h)

@@ -14,7 +14,7 @@ use Rattle.ck_grammar.specs.Readers.{Reader, or_else}
 use Rattle.ck_grammar.specs.ReadingExpressions.{operand_loop, suffix_loop, suffix_by, suffixed, postfix_after, unary}
 use Rattle.ck_grammar.specs.ReadingExpressions.{neighbours, is_string, begins_operand}
 use Rattle.ck_grammar.specs.Trees.{Expr, Suffixes, Specifiers, Declarator, Name, Constant, Strings, Paren, Postfix}
-use Rattle.ck_grammar.specs.Trees.{NoSuffixes, Index, CallEmpty, Call, MemberAccess, PostIncrement}
+use Rattle.ck_grammar.specs.Trees.{Operands, NoSuffixes, Index, CallEmpty, Call, MemberAccess, PostIncrement}
 use Rattle.ck_grammar.specs.Words.{Word, String, Follow, Neighbour, Operator, Nothing, follow}
 use Rattle.ck_grammar.specs.Written.{written, operands, suffixes}
 
@@ -32,6 +32,26 @@ no_more_suffixes w p (suc f) [] h = refl
 no_more_suffixes w p (suc f) (t ∷ ts) h =
     ap (or_else (NoSuffixes, t ∷ ts)) (no_suffix w p (suffix_loop w p f) (follow (w t)) t ts h)
 
+-- a call is read where what is after it is
+suffixes_read-call : (w : Token → Word) (p : ℕ → Reader Expr) (n : ℕ) (o : Token) (e : Expr) (ops : Operands)
+    (c : Token) (rest : Suffixes) (more : List Token) (f : ℕ)
+    → Exact w n p → FitsSuffixes w (Call o e ops c rest) → suffixes_nesting (Call o e ops c rest) ≤ n
+    → suffix_loop w p f (suffixes rest more) ≡ (rest, more)
+    → suffix_loop w p (suc f) (suffixes (Call o e ops c rest) more) ≡ (Call o e ops c rest, more)
+suffixes_read-call w p n o e ops c rest more f exact h nests again =
+    let stop13 : StopsAt w 13 (c ∷ suffixes rest more) = at_round w c (suffixes rest more) 13 (omega arith) h.2 in
+    let head : begins_operand w (written e (operands ops (c ∷ suffixes rest more))) ≡ true =
+    begins w e (operands ops (c ∷ suffixes rest more)) h.1.0 in
+    let read : p 12 (written e (operands ops (c ∷ suffixes rest more))) ≡ Some
+    (e, operands ops (c ∷ suffixes rest more)) = exact 12 (omega arith) e
+    (operands ops (c ∷ suffixes rest more)) h.1.0 (omega (arith, nests)) (omega (arith, h.1.1))
+    (operands_stop w 12 ops (c ∷ suffixes rest more) h.1.2 stop13) in
+    let all : operand_loop w (p 12) 13 (length (operands ops (c ∷ suffixes rest more)))
+    (operands ops (c ∷ suffixes rest more)) ≡ (ops, c ∷ suffixes rest more) =
+    operands_read w (p 12) n 12 ops (c ∷ suffixes rest more) (length (operands ops (c ∷ suffixes rest more)))
+    (exact 12 (omega arith)) h.1.2 (omega (arith, nests)) stop13 (omega arith) in
+    rw (h.0, head, read, all, h.2, again) refl
+
 pub suffixes_read : (w : Token → Word) (p : ℕ → Reader Expr) (n : ℕ) (s : Suffixes) (more : List Token) (f : ℕ)
     → Exact w n p → FitsSuffixes w s → suffixes_nesting s ≤ n → StopsAt w 0 more → length (suffixes s more) ≤ f
     → suffix_loop w p f (suffixes s more) ≡ (s, more)
@@ -48,27 +68,14 @@ suffixes_read w p n (CallEmpty o c rest) more (suc f) exact h nests stop fuel =
     suffixes_read w p n rest more f exact h.2 nests stop (omega (arith, fuel)) in
     rw (h.0, h.1, again) refl
 suffixes_read w p n (Call o e ops c rest) more (suc f) exact h nests stop fuel =
-    let behind_ops = c ∷ suffixes rest more in
-    let stop13 : StopsAt w 13 (c ∷ suffixes rest more) = at_round w c (suffixes rest more) 13 (omega arith) h.2 in
-    let head : begins_operand w (written e (operands ops (c ∷ suffixes rest more))) ≡ true =
-    begins w e (operands ops (c ∷ suffixes rest more)) h.1.0 in
-    let read : p 12 (written e (operands ops (c ∷ suffixes rest more))) ≡ Some
-    (e, operands ops (c ∷ suffixes rest more)) = exact 12 (omega arith) e
-    (operands ops (c ∷ suffixes rest more)) h.1.0 (omega (arith, nests)) (omega (arith, h.1.1))
-    (operands_stop w 12 ops (c ∷ suffixes rest more) h.1.2 stop13) in
-    let all : operand_loop w (p 12) 13 (length (operands ops (c ∷ suffixes rest more)))
-    (operands ops (c ∷ suffixes rest more)) ≡ (ops, c ∷ suffixes rest more) =
-    operands_read w (p 12) n 12 ops (c ∷ suffixes rest more) (length (operands ops (c ∷ suffixes rest more)))
-    (exact 12 (omega arith)) h.1.2 (omega (arith, nests)) stop13 (omega arith) in
-    let again : suffix_loop w p f (suffixes rest more) ≡ (rest, more) = suffixes_read w p n rest more f exact h.3
-    (omega (arith, nests)) stop
+    suffixes_read-call w p n o e ops c rest more f exact h nests
+    (suffixes_read w p n rest more f exact h.3 (omega (arith, nests)) stop
     (omega (
       arith,
       fuel,
       longer e (operands ops (c ∷ suffixes rest more)),
       longer_operands ops (c ∷ suffixes rest more),
-    )) in
-    rw (h.0, head, read, all, h.2, again) refl
+    )))
 suffixes_read w p n (MemberAccess t m rest) more (suc f) exact h nests stop fuel =
     let again : suffix_loop w p f (suffixes rest more) ≡ (rest, more) =
     suffixes_read w p n rest more f exact h.2 nests stop (omega (arith, fuel)) in

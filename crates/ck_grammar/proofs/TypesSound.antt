@@ -169,8 +169,7 @@ specifier_sound w ms es n go seen StructWord t ts is told sound_m sound_e again 
     (λ tag o m c s r name open_ good close rest spelled.
     record {
       tokens_are = ap (◌∷◌ t) spelled;
-      good =
-          ((is, name, open_, (good.0, good.1), close, rest.0), omega (arith, good.2, rest.1));
+      good = ((is, name, open_, (good.0, good.1), close, rest.0), omega (arith, good.2, rest.1));
     })
     (λ name s r named rest spelled.
     record { tokens_are = ap (◌∷◌ t) spelled; good = ((rw is refl, named, rest.0), rest.1) }))
@@ -181,8 +180,7 @@ specifier_sound w ms es n go seen EnumWord t ts is told sound_m sound_e again =
     (λ tag o m c s r name open_ good close rest spelled.
     record {
       tokens_are = ap (◌∷◌ t) spelled;
-      good =
-          ((is, name, open_, good.0, close, rest.0), omega (arith, good.1, rest.1));
+      good = ((is, name, open_, good.0, close, rest.0), omega (arith, good.1, rest.1));
     })
     (λ name s r named rest spelled.
     record { tokens_are = ap (◌∷◌ t) spelled; good = ((rw is refl, named, rest.0), rest.1) }))

@@ -198,6 +198,12 @@ PhraseTells word JumpPhrase = IsJump word
 PhraseTells word ReturnPhrase = word ≡ Fixed (codes "return")
 PhraseTells word _ = Unit {0}
 
+-- what one test of a chain tells of a word
+phrase_told : (word : Word) (b : Bool) (one last : Phrase)
+    → (b ≡ true → PhraseTells word one) → PhraseTells word last → PhraseTells word (cond b one last)
+phrase_told word true one last told rest = told refl
+phrase_told word false one last told rest = rest
+
 phrase_chain : (text : List ℕ) (a b c d e f g h i j k l m n o : Bool)
     → (b ≡ true → Fixed text ≡ Fixed (codes "{")) → (d ≡ true → Fixed text ≡ Fixed (codes ";"))
     → (e ≡ true → Fixed text ≡ Fixed (codes "if")) → (g ≡ true → Fixed text ≡ Fixed (codes "switch"))
@@ -218,38 +224,23 @@ phrase_chain : (text : List ℕ) (a b c d e f g h i j k l m n o : Bool)
     (cond j ForPhrase
     (cond k CasePhrase
     (cond l DefaultPhrase (cond m GotoPhrase (cond n JumpPhrase (cond o ReturnPhrase OtherPhrase)))))))))))))))
-phrase_chain text true b c d e f g h i j k l m n o block empty if_ switch while_ do_ for_ case_ default_ goto_ leave
-    return_ = tt
-phrase_chain text false true c d e f g h i j k l m n o block empty if_ switch while_ do_ for_ case_ default_ goto_ leave
-    return_ = block refl
-phrase_chain text false false true d e f g h i j k l m n o block empty if_ switch while_ do_ for_ case_ default_ goto_
-    leave return_ = tt
-phrase_chain text false false false true e f g h i j k l m n o block empty if_ switch while_ do_ for_ case_ default_
-    goto_ leave return_ = empty refl
-phrase_chain text false false false false true f g h i j k l m n o block empty if_ switch while_ do_ for_ case_ default_
-    goto_ leave return_ = if_ refl
-phrase_chain text false false false false false true g h i j k l m n o block empty if_ switch while_ do_ for_ case_
-    default_ goto_ leave return_ = tt
-phrase_chain text false false false false false false true h i j k l m n o block empty if_ switch while_ do_ for_ case_
-    default_ goto_ leave return_ = switch refl
-phrase_chain text false false false false false false false true i j k l m n o block empty if_ switch while_ do_ for_
-    case_ default_ goto_ leave return_ = while_ refl
-phrase_chain text false false false false false false false false true j k l m n o block empty if_ switch while_ do_
-    for_ case_ default_ goto_ leave return_ = do_ refl
-phrase_chain text false false false false false false false false false true k l m n o block empty if_ switch while_ do_
-    for_ case_ default_ goto_ leave return_ = for_ refl
-phrase_chain text false false false false false false false false false false true l m n o block empty if_ switch while_
-    do_ for_ case_ default_ goto_ leave return_ = case_ refl
-phrase_chain text false false false false false false false false false false false true m n o block empty if_ switch
-    while_ do_ for_ case_ default_ goto_ leave return_ = default_ refl
-phrase_chain text false false false false false false false false false false false false true n o block empty if_
-    switch while_ do_ for_ case_ default_ goto_ leave return_ = goto_ refl
-phrase_chain text false false false false false false false false false false false false false true o block empty if_
-    switch while_ do_ for_ case_ default_ goto_ leave return_ = leave refl
-phrase_chain text false false false false false false false false false false false false false false true block empty
-    if_ switch while_ do_ for_ case_ default_ goto_ leave return_ = return_ refl
-phrase_chain text false false false false false false false false false false false false false false false block empty
-    if_ switch while_ do_ for_ case_ default_ goto_ leave return_ = tt
+phrase_chain text a b c d e f g h i j k l m n o block empty if_ switch while_ do_ for_ case_ default_ goto_ leave
+    return_ =
+    let w = Fixed text in
+    phrase_told w a OtherPhrase _ (λ is. tt)
+    (phrase_told w b BlockPhrase _ block
+    (phrase_told w c ClosePhrase _ (λ is. tt)
+    (phrase_told w d EmptyPhrase _ empty
+    (phrase_told w e IfPhrase _ if_
+    (phrase_told w f ElsePhrase _ (λ is. tt)
+    (phrase_told w g SwitchPhrase _ switch
+    (phrase_told w h WhilePhrase _ while_
+    (phrase_told w i DoPhrase _ do_
+    (phrase_told w j ForPhrase _ for_
+    (phrase_told w k CasePhrase _ case_
+    (phrase_told w l DefaultPhrase _ default_
+    (phrase_told w m GotoPhrase _ goto_
+    (phrase_told w n JumpPhrase _ leave (phrase_told w o ReturnPhrase OtherPhrase return_ tt))))))))))))))
 
 or_cases : (a b : Bool) → (a || b) ≡ true → (a ≡ true) ⊎ (b ≡ true)
 or_cases true b h = inl refl

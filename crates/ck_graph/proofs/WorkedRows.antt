@@ -28,7 +28,16 @@ edges_to [] = []
 edges_to (n ∷ rest) = record { to = record { 0 = n }; label = label.Plain } ∷ edges_to rest
 
 abbrev point : PointKind → ℕ → List ℕ → List FnId → Point
-point kind owner to targets = record { kind = kind; function = function owner; site = Nowhere; path = []; order = []; side = 0; edges = edges_to to; targets = targets }
+point kind owner to targets = record {
+  kind = kind;
+  function = function owner;
+  site = Nowhere;
+  path = [];
+  order = [];
+  side = 0;
+  edges = edges_to to;
+  targets = targets;
+}
 
 abbrev act_of : Op → PointKind
 act_of op = Act op (name.Outside 0)
@@ -55,12 +64,15 @@ one_branch = record {
 }
 
 -- past the lock, Unlock in TN is SV#5
-past_the_lock : alarm_after one_branch (walk one_branch (main_root 1) (EnterTarget 0 ∷ TakeEdge 0 ∷ TakeEdge 1 ∷ [])) ≡ Some (Some (Sv 5))
+past_the_lock : alarm_after one_branch (walk one_branch (main_root 1) (EnterTarget 0 ∷ TakeEdge 0 ∷ TakeEdge 1 ∷ []))
+    ≡ Some (Some (Sv 5))
 unfolding one_branch point_at function_at
 past_the_lock = refl
 
 -- through the lock, the walk ends back in the synthetic function, at its exit, in TN
-through_the_lock : walk one_branch (main_root 1) (EnterTarget 0 ∷ TakeEdge 0 ∷ TakeEdge 0 ∷ TakeEdge 0 ∷ TakeEdge 0 ∷ ReturnToCaller ∷ []) ≡ Some (record { top = record { point = 6; entered = TI }; below = []; state = TN })
+through_the_lock : walk one_branch (main_root 1)
+    (EnterTarget 0 ∷ TakeEdge 0 ∷ TakeEdge 0 ∷ TakeEdge 0 ∷ TakeEdge 0 ∷ ReturnToCaller ∷ [])
+    ≡ Some (record { top = record { point = 6; entered = TI }; below = []; state = TN })
 unfolding one_branch point_at function_at
 through_the_lock = refl
 
@@ -68,7 +80,8 @@ through_the_lock = refl
 helper_twice : Flow
 helper_twice = record {
   points =
-      point (act_of Init) 0 (1 ∷ []) [] ∷ point (Call 0) 0 (2 ∷ []) (function 1 ∷ []) ∷ point (act_of Lock) 0 (3 ∷ []) [] ∷
+      point (act_of Init) 0 (1 ∷ []) [] ∷ point (Call 0) 0 (2 ∷ []) (function 1 ∷ []) ∷
+      point (act_of Lock) 0 (3 ∷ []) [] ∷
       point (Call 1) 0 (4 ∷ []) (function 1 ∷ []) ∷ point (act_of Unlock) 0 (5 ∷ []) [] ∷ point Exit 0 [] [] ∷
       point Plain 1 (7 ∷ []) [] ∷ point Exit 1 [] [] ∷
       point (Call 2) 2 (9 ∷ []) (function 0 ∷ []) ∷ point Exit 2 [] [] ∷ [];
@@ -76,11 +89,25 @@ helper_twice = record {
 }
 
 -- the second call's helper is entered in TL and returns to the second call alone
-second_helper : walk helper_twice (main_root 2) (EnterTarget 0 ∷ TakeEdge 0 ∷ EnterTarget 1 ∷ TakeEdge 0 ∷ ReturnToCaller ∷ TakeEdge 0 ∷ EnterTarget 1 ∷ TakeEdge 0 ∷ []) ≡ Some (record { top = record { point = 7; entered = TL }; below = record { point = 3; entered = TI } ∷ record { point = 8; entered = TI } ∷ []; state = TL })
+second_helper : walk helper_twice (main_root 2)
+    (EnterTarget 0 ∷ TakeEdge 0 ∷ EnterTarget 1 ∷ TakeEdge 0 ∷ ReturnToCaller ∷
+    TakeEdge 0 ∷ EnterTarget 1 ∷ TakeEdge 0 ∷ [])
+    ≡ Some (record {
+      top = record { point = 7; entered = TL };
+      below = record { point = 3; entered = TI } ∷ record { point = 8; entered = TI } ∷ [];
+      state = TL;
+    })
 unfolding helper_twice point_at function_at
 second_helper = refl
 
-after_the_second_helper : walk helper_twice (main_root 2) (EnterTarget 0 ∷ TakeEdge 0 ∷ EnterTarget 1 ∷ TakeEdge 0 ∷ ReturnToCaller ∷ TakeEdge 0 ∷ EnterTarget 1 ∷ TakeEdge 0 ∷ ReturnToCaller ∷ []) ≡ Some (record { top = record { point = 4; entered = TI }; below = record { point = 8; entered = TI } ∷ []; state = TL })
+after_the_second_helper : walk helper_twice (main_root 2)
+    (EnterTarget 0 ∷ TakeEdge 0 ∷ EnterTarget 1 ∷ TakeEdge 0 ∷ ReturnToCaller ∷
+    TakeEdge 0 ∷ EnterTarget 1 ∷ TakeEdge 0 ∷ ReturnToCaller ∷ [])
+    ≡ Some (record {
+      top = record { point = 4; entered = TI };
+      below = record { point = 8; entered = TI } ∷ [];
+      state = TL;
+    })
 unfolding helper_twice point_at function_at
 after_the_second_helper = refl
 
@@ -88,20 +115,26 @@ after_the_second_helper = refl
 recursive : Flow
 recursive = record {
   points =
-      point (act_of Init) 0 (1 ∷ []) [] ∷ point (act_of Lock) 0 (2 ∷ []) [] ∷ point (Call 0) 0 (3 ∷ []) (function 1 ∷ []) ∷
+      point (act_of Init) 0 (1 ∷ []) [] ∷ point (act_of Lock) 0 (2 ∷ []) [] ∷
+      point (Call 0) 0 (3 ∷ []) (function 1 ∷ []) ∷
       point (act_of Unlock) 0 (4 ∷ []) [] ∷ point Exit 0 [] [] ∷
-      point Plain 1 (6 ∷ 7 ∷ []) [] ∷ point (Call 1) 1 (8 ∷ []) (function 1 ∷ []) ∷ point (act_of Unlock) 1 (8 ∷ []) [] ∷ point Exit 1 [] [] ∷
+      point Plain 1 (6 ∷ 7 ∷ []) [] ∷ point (Call 1) 1 (8 ∷ []) (function 1 ∷ []) ∷
+      point (act_of Unlock) 1 (8 ∷ []) [] ∷ point Exit 1 [] [] ∷
       point (Call 2) 2 (10 ∷ []) (function 0 ∷ []) ∷ point Exit 2 [] [] ∷ [];
   functions = ends 0 4 ∷ ends 5 8 ∷ ends 9 10 ∷ [];
 }
 
 -- two calls deep, `down` unlocks and returns twice, and the unlock of `main` is SV#5
-after_recursion : alarm_after recursive (walk recursive (main_root 2) (EnterTarget 0 ∷ TakeEdge 0 ∷ TakeEdge 0 ∷ EnterTarget 1 ∷ TakeEdge 0 ∷ EnterTarget 1 ∷ TakeEdge 1 ∷ TakeEdge 0 ∷ ReturnToCaller ∷ ReturnToCaller ∷ [])) ≡ Some (Some (Sv 5))
+after_recursion : alarm_after recursive (walk recursive (main_root 2)
+    (EnterTarget 0 ∷ TakeEdge 0 ∷ TakeEdge 0 ∷ EnterTarget 1 ∷ TakeEdge 0 ∷ EnterTarget 1 ∷ TakeEdge 1 ∷ TakeEdge 0 ∷
+    ReturnToCaller ∷ ReturnToCaller ∷ []))
+    ≡ Some (Some (Sv 5))
 unfolding recursive point_at function_at
 after_recursion = refl
 
 -- an exit without a frame below has no move, and neither has an edge that isn't there
-no_move_at_the_end : walk recursive (main_root 1) (TakeEdge 1 ∷ []) ≡ Some (record { top = record { point = 7; entered = TI }; below = []; state = TI })
+no_move_at_the_end : walk recursive (main_root 1) (TakeEdge 1 ∷ [])
+    ≡ Some (record { top = record { point = 7; entered = TI }; below = []; state = TI })
 unfolding recursive point_at function_at
 no_move_at_the_end = refl
 

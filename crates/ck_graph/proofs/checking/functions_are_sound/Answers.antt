@@ -4,4 +4,5 @@ use Rattle.ck_graph.proofs.checking.functions_are_sound.Goals as goal
 
 pub returns-then-not-is_function_sound : goal.returns-then-not-is_function_sound
 returns-then-not-is_function_sound c =
-    at_function c.loop-number.number (omega (arith, c.args.parts.now.functions.ok.0)) (c.if-not-is_function_sound.ensures)
+    at_function c.loop-number.number (omega (arith, c.args.parts.now.functions.ok.0))
+    (c.if-not-is_function_sound.ensures)

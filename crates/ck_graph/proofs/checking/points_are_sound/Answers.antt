@@ -8,4 +8,5 @@ pub returns-then-not-is_point_sound : goal.returns-then-not-is_point_sound
 returns-then-not-is_point_sound c =
     let flow = flow_of c.args.parts.now in
     let number = c.loop-number.number in
-    at_point number (omega (arith, c.args.parts.now.points.ok.0, length-map c.args.parts.now.points.items point_of)) (subst (HasPointFault flow number) c.point.ensures (c.if-not-is_point_sound.ensures))
+    at_point number (omega (arith, c.args.parts.now.points.ok.0, length-map c.args.parts.now.points.items point_of))
+    (subst (HasPointFault flow number) c.point.ensures (c.if-not-is_point_sound.ensures))
