@@ -1,5 +1,6 @@
 -- A switch, the unlock check, and a reschedule.
-use Rattle.std.proofs.Common.{◌≡◌, ℕ, zero, suc, ◌<◌, ◌%◌, Bool, true, false, not, cond, List, [], get_or, set, pos, Option, Some, None, refl, sym, ap, ap₂, ◌∙◌, subst, arith, mod-lt, get_or-set_same}
+use Rattle.std.proofs.Common.{◌≡◌, ℕ, zero, suc, ◌<◌, ◌%◌, Bool, true, false, not, cond, List, [], get_or, set, pos}
+use Rattle.std.proofs.Common.{Option, Some, None, refl, sym, ap, ap₂, ◌∙◌, subst, arith, mod-lt, get_or-set_same}
 use Rattle.std.specs.List.{AllZip}
 use Rattle.ck_base.specs.declared.ops.Op.{Op}
 use Rattle.ck_base.specs.declared.ops.Op.TheVariants.{Unlock}
@@ -14,12 +15,14 @@ use Rattle.ck_sound.specs.declared.threads.ThreadStatus.TheVariants.{Running, Re
 use Rattle.ck_sound.specs.Choices.{first, later}
 use Rattle.ck_sound.specs.Kernel.{Kernel, Done, running_thread, checked}
 use Rattle.ck_sound.specs.Sound.{Fits, is_off, fits_left, AreLinked, Holds, Survives}
-use Rattle.ck_sound.specs.Switch.{unlocked, unlocked_by, unlocked_at, started, goes_on, switched, switched_to, left_as, rescheduled}
+use Rattle.ck_sound.specs.Switch.{unlocked, unlocked_by, unlocked_at, started, goes_on, switched, switched_to, left_as}
+use Rattle.ck_sound.specs.Switch.{rescheduled}
 use Rattle.ck_sound.specs.SystemStates.{is_thread, in_section, is_normal, locked, phase_of}
 use Rattle.ck_sound.specs.Threads.{is_ready, is_best, ready_above, count, nth_place, thread_at, no_thread}
 use Rattle.ck_sound.specs.declared.kernel.Phase.TheVariants as in_phase
 use Rattle.ck_sound.proofs.Lists.{zip-set, zip-set_left, zip-get}
-use Rattle.ck_sound.proofs.ReadyThreads.{Passes, nth-passes, priority-set, length_set, above-set, and-left, and-right, not-true}
+use Rattle.ck_sound.proofs.ReadyThreads.{Passes, nth-passes, priority-set, length_set, above-set, and-left, and-right}
+use Rattle.ck_sound.proofs.ReadyThreads.{not-true}
 
 -- what a switch needs: no handler, and each thread that is ready or waits fits
 pub record MayLeave (kp : ℕ) (k : Kernel) (states : List State) : Type 0 where

@@ -1,8 +1,12 @@
 -- What each act does to the kernel's part of the world, once its check is passed: `effect`, at the end, has a line for
 -- each op.
-use Rattle.std.specs.Prelude.{ℕ, zero, suc, ◌+◌, ◌-◌, min, Bool, true, false, not, ◌&&◌, ◌||◌, if◌then◌else◌, List, [], ◌∷◌, ◌++◌, Option, Some, None, slice_set}
+use Rattle.std.specs.Prelude.{ℕ, zero, suc, ◌+◌, ◌-◌, min, Bool, true, false, not, ◌&&◌, ◌||◌, if◌then◌else◌, List, []}
+use Rattle.std.specs.Prelude.{◌∷◌, ◌++◌, Option, Some, None, slice_set}
 use Rattle.ck_base.specs.declared.ops.Op.{Op}
-use Rattle.ck_base.specs.declared.ops.Op.TheVariants.{Init, Halt, Disable, Suspend, Enable, Lock, Unlock, LockIsr, UnlockIsr, Prologue, Epilogue, IQuiet, IWakes, SPlain, SWakes, SSettles, Normal, ExitNormal, ExitS, Free, Neutral, HandlerReturn, GetStatus, RestoreStatus, PairEnter, PairLeft}
+use Rattle.ck_base.specs.declared.ops.Op.TheVariants.{Init, Halt, Disable, Suspend, Enable, Lock, Unlock, LockIsr}
+use Rattle.ck_base.specs.declared.ops.Op.TheVariants.{UnlockIsr, Prologue, Epilogue, IQuiet, IWakes, SPlain, SWakes}
+use Rattle.ck_base.specs.declared.ops.Op.TheVariants.{SSettles, Normal, ExitNormal, ExitS, Free, Neutral, HandlerReturn}
+use Rattle.ck_base.specs.declared.ops.Op.TheVariants.{GetStatus, RestoreStatus, PairEnter, PairLeft}
 use Rattle.ck_base.specs.declared.states.Kind.TheVariants.{Sv}
 use Rattle.ck_sound.specs.declared.threads.Thread.{Thread}
 use Rattle.ck_sound.specs.declared.threads.ThreadStatus.{ThreadStatus}
@@ -15,7 +19,8 @@ use Rattle.ck_sound.specs.declared.stops.Stop.TheVariants as machine
 use Rattle.ck_sound.specs.Choices.{first, later, odd}
 use Rattle.ck_sound.specs.Threads.{some_equal}
 use Rattle.ck_sound.specs.Wake.{Woken, wake}
-use Rattle.ck_sound.specs.Kernel.{Kernel, Request, Nothing, Creates, SetsPriority, Restores, Done, running_thread, checked, goes, stops}
+use Rattle.ck_sound.specs.Kernel.{Kernel, Request, Nothing, Creates, SetsPriority, Restores, Done, running_thread}
+use Rattle.ck_sound.specs.Kernel.{checked, goes, stops}
 use Rattle.ck_sound.specs.Switch.{unlocked, switched, left_as, blocked, rescheduled}
 
 -- What an act asks for is made.

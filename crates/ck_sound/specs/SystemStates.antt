@@ -2,7 +2,8 @@
 -- outcome of the state table.
 use Rattle.std.specs.Prelude.{ℕ, suc, Bool, true, false, not, ◌&&◌, List, [], ◌∷◌}
 use Rattle.ck_base.specs.declared.states.State.{State}
-use Rattle.ck_base.specs.declared.states.State.TheVariants.{TI, TN, TS, TD, TL, TP, HB, HO, HL, HE, FF, XL, NL, NP, OX, ON}
+use Rattle.ck_base.specs.declared.states.State.TheVariants.{TI, TN, TS, TD, TL, TP, HB, HO, HL, HE, FF, XL, NL, NP, OX}
+use Rattle.ck_base.specs.declared.states.State.TheVariants.{ON}
 use Rattle.ck_base.specs.declared.states.Outcome.{Outcome}
 use Rattle.ck_base.specs.declared.states.Outcome.TheVariants.{Next, Alarm}
 use Rattle.ck_sound.specs.declared.kernel.Phase.{Phase}

@@ -1,5 +1,6 @@
 -- Threads in a list, in the order of their creation; a thread's number is its place there, from 0.
-use Rattle.std.specs.Prelude.{ℕ, zero, suc, ◌==◌, Bool, true, false, not, ◌&&◌, ◌||◌, if◌then◌else◌, nat_lt, List, [], ◌∷◌, slice_index_or}
+use Rattle.std.specs.Prelude.{ℕ, zero, suc, ◌==◌, Bool, true, false, not, ◌&&◌, ◌||◌, if◌then◌else◌, nat_lt, List, []}
+use Rattle.std.specs.Prelude.{◌∷◌, slice_index_or}
 use Rattle.ck_sound.specs.declared.threads.Thread.{Thread}
 use Rattle.ck_sound.specs.declared.threads.ThreadStatus.{ThreadStatus}
 use Rattle.ck_sound.specs.declared.threads.ThreadStatus.TheVariants.{Ready, Waiting, Ended}

@@ -1,5 +1,7 @@
 -- The lists of calls, as they are filled.
-use Rattle.std.proofs.Common.{◌≡◌, ◌⊎◌, ◌↔◌, ℕ, zero, suc, ◌+◌, ◌<◌, ◌≤◌, ◌≢◌, List, [], ◌∷◌, ◌++◌, Some, length, set, get_or, slice_get, refl, sym, ap, ◌∙◌, subst, inl, inr, arith, get_or-set_same, get_or-set_other}
+use Rattle.std.proofs.Common.{◌≡◌, ◌⊎◌, ◌↔◌, ℕ, zero, suc, ◌+◌, ◌<◌, ◌≤◌, ◌≢◌, List, [], ◌∷◌, ◌++◌, Some, length, set}
+use Rattle.std.proofs.Common.{get_or, slice_get, refl, sym, ap, ◌∙◌, subst, inl, inr, arith, get_or-set_same}
+use Rattle.std.proofs.Common.{get_or-set_other}
 use Rattle.std.specs.List.{Contains}
 use Rattle.std.proofs.lemmas.Bool.{cases_eq, cases_lt}
 use Rattle.std.proofs.lemmas.List.{length-append, length-set, length-map, map-set, get_or-map}
@@ -43,10 +45,11 @@ added-one lists i point within f call =
     elim (cases_eq f i) [
       | inl e ↦
           let at : callers_at (set lists i calls) f ≡ calls = ap (callers_at (set lists i calls)) e ∙ same in (
-            λ there. elim (Contains-push_cases (callers_at lists i) point call (subst (λ l. Contains l call) at there)) [
-              | inl old ↦ inl (subst (λ x. Contains (callers_at lists x) call) (sym e) old)
-              | inr new ↦ inr (sym new, e)
-            ],
+            λ there. elim
+                (Contains-push_cases (callers_at lists i) point call (subst (λ l. Contains l call) at there)) [
+                  | inl old ↦ inl (subst (λ x. Contains (callers_at lists x) call) (sym e) old)
+                  | inr new ↦ inr (sym new, e)
+                ],
             λ w. subst (λ l. Contains l call) (sym at) (elim w [
               | inl old ↦ Contains-append_left (callers_at lists i) (point ∷ []) call
                   (subst (λ x. Contains (callers_at lists x) call) e old)
@@ -88,55 +91,64 @@ added-none point targets lists = record {
   );
 }
 
+-- what is in the lists after one more target was in them before, or comes from a target
+added_more-only : (point : PointId) (targets : List FnId) (old mid : List (List PointId)) (n : ℕ) (target : FnId) →
+    slice_get targets n ≡ Some target → target.0 < length mid → AddedSoFar point targets old mid n →
+    (f : ℕ) (call : PointId) →
+    Contains (callers_at (set mid target.0 (callers_at mid target.0 ++ point ∷ [])) f) call →
+    Contains (callers_at old f) call ⊎ ((call ≡ point) × IsTargetBelow targets (n + 1) f)
+added_more-only point targets old mid n target there within before f call has =
+    elim ((added-one mid target.0 point within f call).0 has) [
+      | inl was ↦ elim ((before.exactly f call).0 was) [
+        | inl o ↦ inl o
+        | inr x ↦ inr (
+          x.0,
+          record {
+            place = x.1.place;
+            below = omega (arith, x.1.below);
+            target = x.1.target;
+            there = x.1.there;
+            is = x.1.is;
+          },
+        )
+      ]
+      | inr new ↦ inr (
+        new.0,
+        record { place = n; below = omega arith; target = target; there = there; is = sym new.1 },
+      )
+    ]
+
+-- the lists after one more target have what was in them before, and what comes from a target
+added_more-all : (point : PointId) (targets : List FnId) (old mid : List (List PointId)) (n : ℕ) (target : FnId) →
+    slice_get targets n ≡ Some target → target.0 < length mid → AddedSoFar point targets old mid n →
+    (f : ℕ) (call : PointId) →
+    Contains (callers_at old f) call ⊎ ((call ≡ point) × IsTargetBelow targets (n + 1) f) →
+    Contains (callers_at (set mid target.0 (callers_at mid target.0 ++ point ∷ [])) f) call
+added_more-all point targets old mid n target there within before f call w =
+    (added-one mid target.0 point within f call).1 (elim w [
+      | inl o ↦ inl ((before.exactly f call).1 (inl o))
+      | inr x ↦ elim (cases_lt x.1.place n) [
+        | inl below ↦
+            let t : IsTargetBelow targets n f =
+            record { place = x.1.place; below = below; target = x.1.target; there = x.1.there; is = x.1.is } in
+            inl ((before.exactly f call).1 (inr (x.0, t)))
+        | inr last ↦
+            let place : x.1.place ≡ n = omega (arith, last, x.1.below) in
+            let read : Some x.1.target ≡ Some target = sym x.1.there ∙ (ap (slice_get targets) place ∙ there) in
+            let same : x.1.target ≡ target = cc in
+            inr (x.0, sym x.1.is ∙ ap (λ (t : FnId). t.0) same)
+      ]
+    ])
+
 pub added-more : (point : PointId) (targets : List FnId) (old mid : List (List PointId)) (n : ℕ) (target : FnId) →
     slice_get targets n ≡ Some target → target.0 < length mid → AddedSoFar point targets old mid n →
     AddedSoFar point targets old (set mid target.0 (callers_at mid target.0 ++ point ∷ [])) (n + 1)
 added-more point targets old mid n target there within before = record {
   functions = length-set mid target.0 (callers_at mid target.0 ++ point ∷ []) ∙ before.functions;
-  exactly = λ f call.
-      let one = added-one mid target.0 point within f call in (
-        λ has. elim (one.0 has) [
-          | inl was ↦ elim ((before.exactly f call).0 was) [
-            | inl o ↦ inl o
-            | inr x ↦ inr (
-              x.0,
-              record {
-                place = x.1.place;
-                below = omega (arith, x.1.below);
-                target = x.1.target;
-                there = x.1.there;
-                is = x.1.is;
-              },
-            )
-          ]
-          | inr new ↦ inr (
-            new.0,
-            record { place = n; below = omega arith; target = target; there = there; is = sym new.1 },
-          )
-        ],
-        λ w. one.1 (elim w [
-          | inl o ↦ inl ((before.exactly f call).1 (inl o))
-          | inr x ↦ elim (cases_lt x.1.place n) [
-            | inl below ↦ inl ((before.exactly f call).1
-                (inr (
-                  x.0,
-                  record {
-                    place = x.1.place;
-                    below = below;
-                    target = x.1.target;
-                    there = x.1.there;
-                    is =
-                        x.1.is;
-                  },
-                )))
-            | inr last ↦
-                let place : x.1.place ≡ n = omega (arith, last, x.1.below) in
-                let read : Some x.1.target ≡ Some target = sym x.1.there ∙ (ap (slice_get targets) place ∙ there) in
-                let same : x.1.target ≡ target = cc in
-                inr (x.0, sym x.1.is ∙ ap (λ (t : FnId). t.0) same)
-          ]
-        ]),
-      );
+  exactly = λ f call. (
+    added_more-only point targets old mid n target there within before f call,
+    added_more-all point targets old mid n target there within before f call,
+  );
 }
 
 -- a call point was pushed in memory

@@ -1,7 +1,8 @@
 -- A state is known by its code.
 use Rattle.std.proofs.Common.{◌≡◌, ℕ, zero, suc, refl, sym, ap, ◌∙◌}
 use Rattle.ck_base.specs.declared.states.State.{State}
-use Rattle.ck_base.specs.declared.states.State.TheVariants.{TI, TN, TS, TD, TL, TP, HB, HO, HL, HE, FF, XL, NL, NP, OX, ON}
+use Rattle.ck_base.specs.declared.states.State.TheVariants.{TI, TN, TS, TD, TL, TP, HB, HO, HL, HE, FF, XL, NL, NP, OX}
+use Rattle.ck_base.specs.declared.states.State.TheVariants.{ON}
 use Rattle.ck_base.specs.Act.{state_code}
 
 state_of_code : ℕ → State

@@ -3,7 +3,8 @@ use Rattle.std.proofs.Common.{◌≡◌, ℕ, ◌+◌, ◌<◌, ◌≤◌, ◌�
 use Rattle.std.proofs.lemmas.Bool.{cases_eq}
 use Rattle.ck_base.specs.declared.ops.Op.{Op}
 use Rattle.ck_base.specs.declared.states.State.{State}
-use Rattle.ck_base.specs.declared.states.State.TheVariants.{TI, TN, TS, TD, TL, TP, HB, HO, HL, HE, FF, XL, NL, NP, OX, ON}
+use Rattle.ck_base.specs.declared.states.State.TheVariants.{TI, TN, TS, TD, TL, TP, HB, HO, HL, HE, FF, XL, NL, NP, OX}
+use Rattle.ck_base.specs.declared.states.State.TheVariants.{ON}
 use Rattle.ck_base.specs.declared.states.Outcome.TheVariants.{Next}
 use Rattle.ck_base.specs.Act.{act, state_code}
 use Rattle.ck_rows.specs.declared.rows.Rows.{Rows}

@@ -40,7 +40,7 @@ pub record Raises (op : Op) (rows : Rows) (alarm : AlarmAt) : Type 0 where
   pub pair : Relates rows from (state_code state)
   pub acts : act op state ≡ Alarm alarm.kind
 
--- the same in the state of a number
+-- an op raises an alarm of this kind in the state of this number, in which a relation ends
 pub record RaisesIn (op : Op) (rows : Rows) (number : ℕ) (kind : Kind) : Type 0 where
   pub from : ℕ
   pub state : State
@@ -55,7 +55,7 @@ pub record AddsAlarms (op : Op) (rows : Rows) (point : ℕ) (old new : List Alar
   pub only : (alarm : AlarmAt) → Contains new alarm →
       Contains old alarm ⊎ ((alarm.point.0 ≡ point) × Raises op rows alarm)
 
--- the same alarms, in order, each once
+-- one list has the alarms of another, in the order of a report, each once
 pub record IsInOrder (flow : Flow) (old new : List AlarmAt) : Type 0 where
   pub ordered : AllPairs (λ a b. alarm_cmp flow (alarm_of a) (alarm_of b) ≡ Less) new
   pub same : (alarm : AlarmAt) → Contains new alarm ↔ Contains old alarm

@@ -28,7 +28,7 @@ items_of calls = calls.items
 abbrev pub lists_of : List (Vec PointId Global) → List (List PointId)
 lists_of callers = map items_of callers
 
--- for each function, all points that may enter it, and only those
+-- for each function, all points that may enter it, and only those, in any order and each maybe more than once
 pub record AreCallers (flow : Flow) (callers : List (List PointId)) : Type 0 where
   pub functions : length callers ≡ function_count flow
   pub exactly :

@@ -78,7 +78,8 @@ fn pass_call(graph: &Graph, table: &mut [Rows], listed: &mut Worklist, point: Po
     requires work { IsWorkFor graph.now (work table.old listed.old) }
     ensures growth { IsGrowth graph.now (work table.old listed.old) (work table.new listed.new) }
     ensures entered { (target : ℕ) → MayEnter graph.now point.0 target →
-        (a b : ℕ) → Relates (rows_at table.old point.0) a b → Relates (rows_at table.new (first_of graph.now target)) b b }
+        (a b : ℕ) → Relates (rows_at table.old point.0) a b
+        → Relates (rows_at table.new (first_of graph.now target)) b b }
     ensures returned { (target : ℕ) → MayEnter graph.now point.0 target →
         IsReturned graph.now table.old table.new point.0 target }
 {
@@ -101,10 +102,12 @@ fn pass_target(
 )
     requires sound { IsSound graph.now }
     requires target { MayEnter graph.now point.0 target.0 }
-    requires entries { (b d : ℕ) → Relates entries.now b d → (b ≡ d) × ((a : ℕ) × Relates (rows_at table.old point.0) a d) }
+    requires entries { (b d : ℕ) → Relates entries.now b d
+        → (b ≡ d) × ((a : ℕ) × Relates (rows_at table.old point.0) a d) }
     requires work { IsWorkFor graph.now (work table.old listed.old) }
     ensures growth { IsGrowth graph.now (work table.old listed.old) (work table.new listed.new) }
-    ensures entered { (a b : ℕ) → Relates entries.now a b → Relates (rows_at table.new (first_of graph.now target.0)) a b }
+    ensures entered { (a b : ℕ) → Relates entries.now a b
+        → Relates (rows_at table.new (first_of graph.now target.0)) a b }
     ensures returned { IsReturned graph.now table.old table.new point.0 target.0 }
 {
     add_at(table, listed, graph.first(target), entries);

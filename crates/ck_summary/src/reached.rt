@@ -42,7 +42,8 @@ pub fn alarms(alloc: Global, graph: &Graph, table: &Table) -> Result<Vec<AlarmAt
     requires { IsMadeFor graph.now table.now }
     ensures { IfOk
         result
-        (λ alarms. (roots : List Root) → IsSolution graph.now roots table.now.rows → AreAlarms graph.now roots (alarms_of alarms.items)) }
+        (λ alarms. (roots : List Root) → IsSolution graph.now roots table.now.rows
+        → AreAlarms graph.now roots (alarms_of alarms.items)) }
 {
     let mut found = alarms_found(alloc, graph, table)?;
     put_in_order(graph, &mut found)?;

@@ -55,7 +55,8 @@ impl Table {
         &self.rows[point.0 as usize]
     }
 
-    /// The points that may enter a function.
+    /// The points that may enter a function: all of them, and no other, where the table was made for a graph. In no
+    /// certain order, and a point may be there more than once, as where its targets name the function twice.
     pub fn callers(&self, function: FnId) -> &[PointId]
         requires { function.0 < length self.now.callers }
         ensures { result.now ≡ callers_at self.now.callers function.0 }

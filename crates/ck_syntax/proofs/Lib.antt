@@ -6,6 +6,7 @@ pub mod StatementEquations
 pub mod GrowingRows
 -- First and last tokens
 mod EndLemmas
+mod RowEnds
 mod StatementsAppended
 -- From the data of recursive types to lists
 pub mod Rows

@@ -15,6 +15,7 @@
 #![tactic(auto)]
 
 mod declarations;
+mod declarator_ends;
 mod declarators;
 mod ends;
 mod expressions;

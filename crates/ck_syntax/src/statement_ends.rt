@@ -1,13 +1,14 @@
 //! The first or the last token that a designator, an initialiser, a declaration or a statement is written with.
-ghost use Rattle.std.specs.Prelude.{◌≡◌, Some};
+ghost use Rattle.std.specs.Prelude.{◌≡◌, ◌∷◌, Some};
 ghost use Rattle.ck_grammar.specs.Statements as plain;
 ghost use Rattle.ck_grammar.specs.StatementsWritten as tokens;
-ghost use Rattle.ck_syntax.specs.DeclarationViews.{declaration_tree};
-ghost use Rattle.ck_syntax.specs.Ends.{IsFirst, IsLast, last_after};
+ghost use Rattle.ck_syntax.specs.DeclarationViews.{declaration_tree, declared_tree, declared_trees};
+ghost use Rattle.ck_syntax.specs.Ends.{first, IsFirst, IsLast, last_after};
 ghost use Rattle.ck_syntax.specs.InitialiserViews.{designator_before, designation_tree, init_tree};
 ghost use Rattle.ck_syntax.specs.StatementViews.{statement_tree, item_before, external_tree};
 
-use crate::declarations::Decl;
+use crate::declarations::{Decl, Initialiser, NextDeclared};
+use crate::declarator_ends::first_of_specifiers;
 use crate::externals::External;
 use crate::initialisers::{Designation, Designator, Init};
 use crate::statements::{BlockItem, Stmt};
@@ -59,9 +60,40 @@ impl<A: Allocator> Init<A> {
             Init::Braced(braced) => braced.opening,
         }
     }
+
+    /// The last token of the initialiser.
+    pub fn last_token(&self) -> Token
+        ensures { IsLast (Some result) (tokens.init (init_tree self.now)) }
+    {
+        match self {
+            Init::Value(value) => value.last_token(),
+            Init::Braced(braced) => braced.closing,
+        }
+    }
 }
 
 impl<A: Allocator> Decl<A> {
+    /// The first token of the declaration.
+    pub fn first_token(&self) -> Token
+        ensures { IsFirst (Some result) (tokens.declaration (declaration_tree self.now)) }
+    {
+        match self {
+            Decl::Bare {
+                specifiers,
+                semicolon,
+            } => first_of_specifiers(specifiers).unwrap_or(*semicolon),
+            Decl::Declares {
+                specifiers,
+                declarator,
+                initialiser,
+                others,
+                semicolon,
+            } => first_of_specifiers(specifiers)
+                .or(declarator.first_token())
+                .unwrap_or(after_declarator(initialiser, others, *semicolon)),
+        }
+    }
+
     /// The last token of the declaration, its `;`.
     pub fn last_token(&self) -> Token
         ensures { IsLast (Some result) (tokens.declaration (declaration_tree self.now)) }
@@ -126,6 +158,16 @@ impl<A: Allocator> Stmt<A> {
 
 #[tactic(auto, using(crate::proofs::StatementEquations::statement_views))]
 impl<A: Allocator> BlockItem<A> {
+    /// The first token of the declaration or statement.
+    pub fn first_token(&self) -> Token
+        ensures { IsFirst (Some result) (tokens.items (item_before self.now plain.NoBlockItems)) }
+    {
+        match self {
+            BlockItem::DeclarationItem(declaration) => declaration.first_token(),
+            BlockItem::StatementItem(statement) => statement.first_token(),
+        }
+    }
+
     /// The last token of the declaration or statement.
     pub fn last_token(&self) -> Token
         ensures { IsLast (Some result) (tokens.items (item_before self.now plain.NoBlockItems)) }
@@ -138,6 +180,23 @@ impl<A: Allocator> BlockItem<A> {
 }
 
 impl<A: Allocator> External<A> {
+    /// The first token of the external declaration.
+    pub fn first_token(&self) -> Token
+        ensures { IsFirst (Some result) (tokens.external (external_tree self.now)) }
+    {
+        match self {
+            External::FileDeclaration(declaration) => declaration.first_token(),
+            External::FunctionDefinition {
+                specifiers,
+                declarator,
+                opening,
+                ..
+            } => first_of_specifiers(specifiers)
+                .or(declarator.first_token())
+                .unwrap_or(*opening),
+        }
+    }
+
     /// The last token of the external declaration.
     pub fn last_token(&self) -> Token
         ensures { IsLast (Some result) (tokens.external (external_tree self.now)) }
@@ -146,5 +205,22 @@ impl<A: Allocator> External<A> {
             External::FileDeclaration(declaration) => declaration.last_token(),
             External::FunctionDefinition { closing, .. } => *closing,
         }
+    }
+}
+
+/// The first token after the first declarator of a declaration: of its initialiser, of the others, or the `;`.
+fn after_declarator<A: Allocator>(
+    initialiser: &Option<Initialiser<A>>,
+    others: &Vec<NextDeclared<A>, A>,
+    semicolon: Token,
+) -> Token
+    ensures { (more : _)
+        → first (tokens.declared (declared_tree initialiser.now (declared_trees others.now.items)) (semicolon ∷ more))
+        ≡ Some result }
+{
+    match (initialiser, others.as_slice()) {
+        (Some(initialiser), _) => initialiser.equals,
+        (None, [next, ..]) => next.comma,
+        (None, []) => semicolon,
     }
 }

@@ -4,7 +4,8 @@ use Rattle.ck_graph.specs.Faults.{FitsKind}
 use Rattle.ck_graph.specs.Steps.{kind_at}
 use Rattle.ck_summary.specs.Solution.{rows_at}
 use Rattle.ck_summary.specs.Growth.{work, IsAddition, LeadsTo}
-use Rattle.ck_summary.proofs.PointLemmas.{edges_at, growth-plain, looked-plain, growth-act, looked-act, looked-call, looked-exit}
+use Rattle.ck_summary.proofs.PointLemmas.{edges_at, growth-plain, looked-plain, growth-act, looked-act, looked-call}
+use Rattle.ck_summary.proofs.PointLemmas.{looked-exit}
 use Rattle.ck_summary.proofs.passing.pass_on.Goals as goal
 
 pub returns-in-Plain-clause-growth : goal.returns-in-Plain-clause-growth
