@@ -1,2 +1,9 @@
+-- The places that maps give are those of the definition
+pub mod PlaceLemmas
+-- Lines one after the other
+pub mod LineLemmas
+pub mod SegmentLemmas
+-- Names of a graph
+pub mod GraphLemmas
 -- Worked rows
 pub mod Worked

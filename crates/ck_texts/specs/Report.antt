@@ -1,5 +1,5 @@
 -- The report of a verdict, line by line (docs/REPORT.md, "Rejected"). `at` says where spans are.
-use Rattle.std.specs.Prelude.{ℕ, ◌+◌, ◌==◌, Bool, true, false, List, [], ◌∷◌, ◌++◌, codes, length, slice_index_or}
+use Rattle.std.specs.Prelude.{ℕ, ◌+◌, ◌==◌, Bool, true, false, if◌then◌else◌, List, [], ◌∷◌, ◌++◌, codes, length, slice_index_or}
 use Rattle.std.specs.Fmt.{decimal}
 use Rattle.std.specs.Option.{option_map_or}
 use Rattle.ck_base.specs.declared.ops.Op.{Op}
@@ -26,6 +26,7 @@ use Rattle.ck_texts.specs.Lines.{line, first_line, site_text, kind_text, within_
 use Rattle.ck_texts.specs.Views.{Names, PathToAlarm, Outcome, accepted, rejected}
 use Rattle.ck_segments.specs.declared.segments.Step.{Step}
 use Rattle.ck_segments.specs.declared.segments.Step.TheVariants as way
+use Rattle.ck_summary.specs.declared.reached.AlarmAt.{AlarmAt}
 use Rattle.ck_texts.specs.declared.verdicts.Counts.{Counts}
 
 -- ---- Accepted
@@ -66,16 +67,26 @@ choice_word (label.Pick number) = decimal number
 
 -- ---- Steps. `site` is the point's place as it is printed.
 
--- an act that is passed; those by which a function keeps its status are not printed
-abbrev pub act_line : Names → List ℕ → Op → ActName → List ℕ
-act_line names site PairEnter act = []
-act_line names site PairLeft act = []
-act_line names site op act = line (codes "  act " ++ (site ++ (codes " " ++ act_name names act)))
+-- the acts at the begin and the end of a function that keeps a status, which aren't printed
+abbrev pub keeps_status : Op → Bool
+keeps_status PairEnter = true
+keeps_status PairLeft = true
+keeps_status _ = false
 
--- an edge that is taken at a plain point; a plain edge is not printed
+-- an act that is passed
+abbrev pub act_line : Names → List ℕ → Op → ActName → List ℕ
+act_line names site op act =
+    if keeps_status op then [] else line (codes "  act " ++ (site ++ (codes " " ++ act_name names act)))
+
+-- the one way on is no choice
+abbrev pub is_plain : Label → Bool
+is_plain label.Plain = true
+is_plain _ = false
+
+-- an edge that is taken at a plain point
 abbrev pub choose_line : List ℕ → Label → List ℕ
-choose_line site label.Plain = []
-choose_line site chosen = line (codes "  choose " ++ (site ++ (codes " " ++ choice_word chosen)))
+choose_line site chosen =
+    if is_plain chosen then [] else line (codes "  choose " ++ (site ++ (codes " " ++ choice_word chosen)))
 
 -- a call that returns, and the segment of what happens inside. Segments are counted from 0, and printed from 1
 abbrev pub call_line : Names → List ℕ → FnId → ℕ → List ℕ
@@ -147,18 +158,18 @@ no_root = record { entry = Main; function = record { 0 = 0 }; start = TI }
 abbrev pub root_function : List Root → ℕ → FnId
 root_function roots root = (slice_index_or roots root no_root).function
 
-module _ (flow : Flow) (roots : List Root) (names : Names) (at : Span → Place) where
-  -- the alarm, its kind, its place and the name of the call
-  abbrev pub alarm_line : ℕ → PathToAlarm → List ℕ
+module _ (flow : Flow) (names : Names) (at : Span → Place) where
+  -- an alarm and its number: its kind, its place and the name of the call
+  abbrev pub alarm_line : ℕ → AlarmAt → List ℕ
   alarm_line number alarm =
-      line (codes "alarm " ++ (decimal number ++ (codes " " ++ (kind_text alarm.at.kind ++ (codes " " ++
-      (site flow names at alarm.at.point.0 ++ (codes " " ++
-      called_name names (point_at flow alarm.at.point.0).kind)))))))
+      line (codes "alarm " ++ (decimal number ++ (codes " " ++ (kind_text alarm.kind ++ (codes " " ++
+      (site flow names at alarm.point.0 ++ (codes " " ++ called_name names (point_at flow alarm.point.0).kind)))))))
 
-  -- an alarm and its number
+module _ (flow : Flow) (roots : List Root) (names : Names) (at : Span → Place) where
+  -- an alarm and its number, with the way to it
   abbrev pub alarm_text : ℕ → PathToAlarm → List ℕ
   alarm_text number alarm =
-      alarm_line number alarm ++ (entry_line names (root_function roots alarm.path.root) ++
+      alarm_line flow names at number alarm.at ++ (entry_line names (root_function roots alarm.path.root) ++
       numbered (segment_text flow names at (length alarm.path.list)) 1 alarm.path.list)
 
   abbrev pub rejected_text : List PathToAlarm → List ℕ

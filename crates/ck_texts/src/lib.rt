@@ -10,7 +10,15 @@
 #![tactic(auto)]
 
 mod names;
+mod refusing;
+mod reporting;
+mod settings;
+mod steps;
 mod verdicts;
+mod words;
 
 pub use names::{FunctionName, NameBook};
+pub use refusing::refusal_text;
+pub use reporting::report_text;
+pub use settings::settings_text;
 pub use verdicts::{Alarm, Counts, Verdict};
