@@ -24,7 +24,7 @@ use Rattle.ck_texts.specs.Views.{File}
 
 later-by : (offset : ℕ) (found line : Line) → found.start ≤ offset → (later offset found line).start ≤ offset
 later-by offset found line by = elim (cases_Bool (leb line.start offset && leb found.start line.start)) [
-    inl holds ↦ grind (arith, nat_tests)
+  | inl holds ↦ grind (arith, nat_tests)
   | inr fails ↦ grind (arith, nat_tests)
 ]
 
@@ -36,7 +36,7 @@ later-here offset found line by = grind (arith, nat_tests)
 
 later-is : (offset : ℕ) (found line : Line) → (later offset found line ≡ found) ⊎ (later offset found line ≡ line)
 later-is offset found line = elim (cases_Bool (leb line.start offset && leb found.start line.start)) [
-    inl holds ↦ inr (ap (λ b. cond b line found) holds)
+  | inl holds ↦ inr (ap (λ b. cond b line found) holds)
   | inr fails ↦ inl (ap (λ b. cond b line found) fails)
 ]
 
@@ -73,9 +73,9 @@ latest-is : (offset : ℕ) (found : Line) (lines : List Line) → (latest offset
     ⊎ Contains lines (latest offset found lines)
 latest-is offset found [] = inl refl
 latest-is offset found (line ∷ lines) = elim (latest-is offset (later offset found line) lines) [
-    inl same ↦ elim (later-is offset found line) [
-    inl old ↦ inl (same ∙ old)
-  | inr new ↦ inr (0, omega arith, sym (same ∙ new))
+  | inl same ↦ elim (later-is offset found line) [
+    | inl old ↦ inl (same ∙ old)
+    | inr new ↦ inr (0, omega arith, sym (same ∙ new))
   ]
   | inr has ↦ inr (Contains-more line lines (latest offset (later offset found line) lines) has)
 ]
@@ -86,16 +86,16 @@ latest-among : (offset : ℕ) (found : Line) (lines : List Line) (k : ℕ) (d : 
     → Contains lines (latest offset found lines)
 latest-among offset found [] k d below up by = absurd (omega (arith, below))
 latest-among offset found (line ∷ lines) zero d below up by = elim (latest-is offset (later offset found line) lines) [
-    inl same ↦ (0, omega arith, sym (same ∙ later-line offset found line up by))
+  | inl same ↦ (0, omega arith, sym (same ∙ later-line offset found line up by))
   | inr has ↦ Contains-more line lines (latest offset (later offset found line) lines) has
 ]
 latest-among offset found (line ∷ lines) (suc k) d below up by = elim (later-is offset found line) [
-    inl old ↦ Contains-more line lines (latest offset (later offset found line) lines)
+  | inl old ↦ Contains-more line lines (latest offset (later offset found line) lines)
       (latest-among offset (later offset found line) lines k d (omega (arith, below))
       (omega (arith, ap start_of old, up)) by)
   | inr new ↦ elim (latest-is offset (later offset found line) lines) [
-    inl same ↦ (0, omega arith, sym (same ∙ new))
-  | inr has ↦ Contains-more line lines (latest offset (later offset found line) lines) has
+    | inl same ↦ (0, omega arith, sym (same ∙ new))
+    | inr has ↦ Contains-more line lines (latest offset (later offset found line) lines) has
   ]
 ]
 
@@ -110,7 +110,7 @@ no_feeds name bytes m offset is within at low high = not_true (is_line_feed (sli
     let has : HasStart m.lines.items (at + 1) = is.next at (omega arith) feed in
     let start : start_of (get_or m.lines.items has.0 first_of_file) ≡ at + 1 = has.2 first_of_file in
     let up : start_of (get_or m.lines.items has.0 first_of_file) ≤ (latest offset first_of_file m.lines.items).start =
-        latest-last offset first_of_file m.lines.items has.0 first_of_file has.1 (omega arith) in
+    latest-last offset first_of_file m.lines.items has.0 first_of_file has.1 (omega arith) in
     omega arith)
 
 -- the place that a map gives an offset of its file
@@ -121,10 +121,10 @@ place_in-is name bytes m offset is within =
     let lines : List Line = m.lines.items in
     let zero_start : start_of (get_or lines is.first.0 first_of_file) ≡ 0 = is.first.2 first_of_file in
     let among : Contains lines (latest offset first_of_file lines) =
-        latest-among offset first_of_file lines is.first.0 first_of_file is.first.1 (omega arith) (omega arith) in
+    latest-among offset first_of_file lines is.first.0 first_of_file is.first.1 (omega arith) (omega arith) in
     let of_line : IsLineOf name bytes (names_of m.names.items) (latest offset first_of_file lines) =
-        All-contains (IsLineOf name bytes (names_of m.names.items)) lines (latest offset first_of_file lines)
-        is.lines among in
+    All-contains (IsLineOf name bytes (names_of m.names.items)) lines (latest offset first_of_file lines)
+    is.lines among in
     of_line.places offset (latest-by offset first_of_file lines (omega arith)) within
     (no_feeds name bytes m offset is within)
 
@@ -138,13 +138,13 @@ place_by-map maps span m there = rw there refl
 pub place_by-found : (maps : List PlaceMap) (span : Span) (m : PlaceMap) (found : Place) → HasPlace maps span
     → m ≡ get_or maps span.file m
     → ((name bytes : List ℕ) → IsPlaceMapOf name bytes m → span.start ≤ length bytes
-        → IsPlace name bytes span.start found)
+    → IsPlace name bytes span.start found)
     → found ≡ place_by maps span
 place_by-found maps span m found has at is =
     let same : m ≡ has.places = at ∙ get_or_from_slice_get maps span.file has.places m has.there in
     let right : IsPlace has.file.name has.file.bytes span.start found =
-        is has.file.name has.file.bytes (subst (IsPlaceMapOf has.file.name has.file.bytes) (sym same) has.is)
-        has.within in
+    is has.file.name has.file.bytes (subst (IsPlaceMapOf has.file.name has.file.bytes) (sym same) has.is)
+    has.within in
     one_place has.file.name has.file.bytes span.start found (place_in has.places span.start) right
     (place_in-is has.file.name has.file.bytes has.places span.start has.is has.within)
     ∙ sym (place_by-map maps span has.places has.there)
@@ -156,7 +156,7 @@ pub maps_say : (files : List File) (maps : List PlaceMap) → AreMapsOf files ma
 maps_say files maps are span within =
     let below : span.file < length files = slice_get_within files span.file within.file within.there in
     elim (slice_get_cases maps span.file).1 [
-      inl some ↦ record {
+      | inl some ↦ record {
         file = within.file;
         there = within.there;
         is = subst (IsPlace within.file.name within.file.bytes span.start)
@@ -164,7 +164,7 @@ maps_say files maps are span within =
             (place_in-is within.file.name within.file.bytes some.0 span.start
             (are.each span.file within.file some.0 within.there some.2) within.within);
       }
-    | inr none ↦ absurd (omega (arith, below, are.same, none.0))
+      | inr none ↦ absurd (omega (arith, below, are.same, none.0))
     ]
 
 -- a span that its file and its map are there for has its place by the map

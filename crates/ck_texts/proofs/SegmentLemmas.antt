@@ -40,7 +40,7 @@ pub step_lines-more : (flow : Flow) (names : Names) (at : Span → Place) (first
     → next ≡ start ++ step_lines flow names at first (take (i + 1) steps)
 step_lines-more flow names at first point steps i step start now next below is there known more =
     let taken : take (i + 1) steps ≡ take i steps ++ step ∷ [] =
-        take_more steps i step below ∙ ap (λ s. take i steps ++ s ∷ []) (sym is) in
+    take_more steps i step below ∙ ap (λ s. take i steps ++ s ∷ []) (sym is) in
     more ∙ (ap (λ p. now ++ step_line flow names at p step) there
     ∙ (ap (λ t. t ++ step_line flow names at (after_steps flow first (take i steps)) step) known
     ∙ (append_assoc start (step_lines flow names at first (take i steps))
@@ -53,7 +53,7 @@ pub after_steps-more : (flow : Flow) (first point next : ℕ) (steps : List Step
     → next ≡ after_step flow point step → next ≡ after_steps flow first (take (i + 1) steps)
 after_steps-more flow first point next steps i step below is there more =
     let taken : take (i + 1) steps ≡ take i steps ++ step ∷ [] =
-        take_more steps i step below ∙ ap (λ s. take i steps ++ s ∷ []) (sym is) in
+    take_more steps i step below ∙ ap (λ s. take i steps ++ s ∷ []) (sym is) in
     more ∙ (ap (λ p. after_step flow p step) there
     ∙ (sym (after_steps-push flow first (take i steps) step) ∙ ap (after_steps flow first) (sym taken)))
 

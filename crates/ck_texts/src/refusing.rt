@@ -26,7 +26,7 @@ pub fn refusal_text(
     let mut text = Vec::new(alloc);
     push_line(&mut text, "rtcheck 1")?;
     let number = number(&refusal.kind);
-    push_number(alloc, &mut text, "unsupported U", u64::from(number), b' ')?;
+    push_number(alloc, &mut text, "unsupported U", number as u64, b' ')?;
     push_spot(alloc, &mut text, files, maps, &refusal.at)?;
     text.push(b' ')?;
     push_line(&mut text, words(&refusal.kind))?;

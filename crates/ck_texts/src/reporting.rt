@@ -11,9 +11,9 @@ ghost use Rattle.ck_texts.specs.Report as spec;
 ghost use Rattle.ck_texts.specs.Views.{File, names_of, outcome_of, path_of};
 
 use crate::names::NameBook;
-use crate::steps::push_segment;
+use crate::steps::{push_segment, push_site};
 use crate::verdicts::{Alarm, Counts, Verdict};
-use crate::words::{act_name, function_name, push_kind, push_line, push_number, push_site};
+use crate::words::{act_name, function_name, push_kind, push_line, push_number};
 use ck_base::{FnId, OutOfMemory, PointId};
 use ck_graph::{Graph, PointKind, Roots};
 use ck_segments::Segment;
@@ -62,21 +62,15 @@ fn accepted(alloc: Global, counts: Counts) -> Result<Vec<u8>, OutOfMemory>
     let mut text = Vec::new(alloc);
     push_line(&mut text, "rtcheck 1")?;
     push_line(&mut text, "accepted")?;
-    push_number(alloc, &mut text, "files ", u64::from(counts.files), b' ')?;
+    push_number(alloc, &mut text, "files ", counts.files as u64, b' ')?;
     push_number(
         alloc,
         &mut text,
         "functions ",
-        u64::from(counts.functions),
+        counts.functions as u64,
         b' ',
     )?;
-    push_number(
-        alloc,
-        &mut text,
-        "entries ",
-        u64::from(counts.entries),
-        b'\n',
-    )?;
+    push_number(alloc, &mut text, "entries ", counts.entries as u64, b'\n')?;
     Ok(text)
 }
 
@@ -178,7 +172,7 @@ fn push_alarm_line(
     push_number(alloc, text, "alarm ", number as u64, b' ')?;
     push_kind(alloc, text, at.kind)?;
     text.push(b' ')?;
-    push_site(alloc, text, &names.maps, graph.site(at.point))?;
+    push_site(alloc, text, graph, names, at.point)?;
     text.push(b' ')?;
     text.extend_from_slice(called_name(graph, names, at.point))?;
     text.push(b'\n')?;

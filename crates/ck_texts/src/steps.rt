@@ -12,27 +12,45 @@ ghost use Rattle.ck_texts.specs.Report as spec;
 ghost use Rattle.ck_texts.specs.Views.{names_of};
 
 use crate::names::NameBook;
-use crate::words::{act_name, function_name, push_line, push_number, push_site};
-use ck_base::{FnId, Op, OutOfMemory, PointId, Spot};
+use crate::words::{act_name, function_name, push_line, push_number, push_spot};
+use ck_base::{Op, OutOfMemory, PointId};
 use ck_graph::{ActName, Edge, Graph, Label, PointKind};
 use ck_segments::{Segment, Step};
 use std::alloc::Global;
 
-/// Adds the begin of a line: words, a place and a name.
+/// Adds the place of a point, or `-`.
+pub(crate) fn push_site(
+    alloc: Global,
+    text: &mut Vec<u8>,
+    graph: &Graph,
+    names: &NameBook,
+    point: PointId,
+) -> Result<(), OutOfMemory>
+    requires named { AreNamesOf graph.now (names_of names.now) names.now.maps.items }
+    requires there { point.0 < point_count graph.now }
+    ensures { OnOk result (text.new.items ≡ text.old.items ++
+        spec.site graph.now (names_of names.now) (place_by names.now.maps.items) point.0) }
+{
+    push_spot(alloc, text, &names.maps, graph.site(point))
+}
+
+/// Adds the begin of a line: words, the place of a point, and a name.
 fn push_named(
     alloc: Global,
     text: &mut Vec<u8>,
     words: &str,
+    graph: &Graph,
     names: &NameBook,
-    site: &Spot,
+    point: PointId,
     name: &[u8],
 ) -> Result<(), OutOfMemory>
-    requires { IsSitePlaced names.now.maps.items site.now }
+    requires named { AreNamesOf graph.now (names_of names.now) names.now.maps.items }
+    requires there { point.0 < point_count graph.now }
     ensures { OnOk result (text.new.items ≡ text.old.items ++ (words.now ++
-        (site_text (place_by names.now.maps.items) site.now ++ (codes " " ++ name.now)))) }
+        (spec.site graph.now (names_of names.now) (place_by names.now.maps.items) point.0 ++ (codes " " ++ name.now)))) }
 {
     text.extend_from_slice(words.as_bytes())?;
-    push_site(alloc, text, &names.maps, site)?;
+    push_site(alloc, text, graph, names, point)?;
     text.push(b' ')?;
     text.extend_from_slice(name)?;
     Ok(())
@@ -49,20 +67,30 @@ fn keeps_status(op: Op) -> bool
 fn push_act(
     alloc: Global,
     text: &mut Vec<u8>,
+    graph: &Graph,
     names: &NameBook,
-    site: &Spot,
+    point: PointId,
     op: Op,
     act: ActName,
 ) -> Result<(), OutOfMemory>
-    requires placed { IsSitePlaced names.now.maps.items site.now }
-    requires named { HasActName (names_of names.now) act }
-    ensures { OnOk result (text.new.items ≡ text.old.items ++
-        spec.act_line (names_of names.now) (site_text (place_by names.now.maps.items) site.now) op act) }
+    requires named { AreNamesOf graph.now (names_of names.now) names.now.maps.items }
+    requires there { point.0 < point_count graph.now }
+    requires act { HasActName (names_of names.now) act }
+    ensures { OnOk result (text.new.items ≡ text.old.items ++ spec.act_line (names_of names.now)
+        (spec.site graph.now (names_of names.now) (place_by names.now.maps.items) point.0) op act) }
 {
     if keeps_status(op) {
         return Ok(());
     }
-    push_named(alloc, text, "  act ", names, site, act_name(names, act))?;
+    push_named(
+        alloc,
+        text,
+        "  act ",
+        graph,
+        names,
+        point,
+        act_name(names, act),
+    )?;
     text.push(b'\n')?;
     Ok(())
 }
@@ -83,7 +111,7 @@ fn choice_word(alloc: Global, label: Label) -> Result<String, OutOfMemory>
         Label::True => String::from_str(alloc, "true")?,
         Label::False => String::from_str(alloc, "false")?,
         Label::Case(number) => {
-            let number = u64::from(number) + 1;
+            let number = number as u64 + 1;
             format!(in alloc; "case {number}")?
         }
         Label::Default => String::from_str(alloc, "default")?,
@@ -97,19 +125,29 @@ fn choice_word(alloc: Global, label: Label) -> Result<String, OutOfMemory>
 fn push_choice(
     alloc: Global,
     text: &mut Vec<u8>,
+    graph: &Graph,
     names: &NameBook,
-    site: &Spot,
+    point: PointId,
     label: Label,
 ) -> Result<(), OutOfMemory>
-    requires { IsSitePlaced names.now.maps.items site.now }
-    ensures { OnOk result (text.new.items ≡ text.old.items ++
-        spec.choose_line (site_text (place_by names.now.maps.items) site.now) label) }
+    requires named { AreNamesOf graph.now (names_of names.now) names.now.maps.items }
+    requires there { point.0 < point_count graph.now }
+    ensures { OnOk result (text.new.items ≡ text.old.items ++ spec.choose_line
+        (spec.site graph.now (names_of names.now) (place_by names.now.maps.items) point.0) label) }
 {
     if is_plain(label) {
         return Ok(());
     }
     let word = choice_word(alloc, label)?;
-    push_named(alloc, text, "  choose ", names, site, word.as_bytes())?;
+    push_named(
+        alloc,
+        text,
+        "  choose ",
+        graph,
+        names,
+        point,
+        word.as_bytes(),
+    )?;
     text.push(b'\n')?;
     Ok(())
 }
@@ -143,16 +181,12 @@ fn push_edge(
         spec.edge_line (names_of names.now) (spec.site graph.now (names_of names.now)
         (place_by names.now.maps.items) point.0) (point_at graph.now point.0).kind (spec.edge_at graph.now point.0 number)) }
 {
-    let site = graph.site(point);
     match *graph.kind(point) {
-        PointKind::Plain => push_choice(
-            alloc,
-            text,
-            names,
-            site,
-            edge_at(graph, point, number).label,
-        ),
-        PointKind::Act(op, act) => push_act(alloc, text, names, site, op, act),
+        PointKind::Plain => {
+            let edge = edge_at(graph, point, number);
+            push_choice(alloc, text, graph, names, point, edge.label)
+        }
+        PointKind::Act(op, act) => push_act(alloc, text, graph, names, point, op, act),
         PointKind::Call(_) => Ok(()),
         PointKind::Exit => Ok(()),
     }
@@ -173,7 +207,6 @@ fn push_step(
     ensures { OnOk result (text.new.items ≡ text.old.items ++
         spec.step_line graph.now (names_of names.now) (place_by names.now.maps.items) point.0 step.now) }
 {
-    let site = graph.site(point);
     match *step {
         Step::Edge(number) => push_edge(alloc, text, graph, names, point, number),
         Step::Call { target, segment } => {
@@ -181,19 +214,21 @@ fn push_step(
                 alloc,
                 text,
                 "  call ",
+                graph,
                 names,
-                site,
+                point,
                 function_name(names, target),
             )?;
-            push_number(alloc, text, " ", u64::from(segment) + 1, b'\n')
+            push_number(alloc, text, " ", segment as u64 + 1, b'\n')
         }
         Step::Enter { target } => {
             push_named(
                 alloc,
                 text,
                 "  enter ",
+                graph,
                 names,
-                site,
+                point,
                 function_name(names, target),
             )?;
             text.push(b'\n')?;

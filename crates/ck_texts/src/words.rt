@@ -65,7 +65,7 @@ pub(crate) fn place_at(maps: &[PlaceMap], span: Span) -> PlaceName<'_>
 }
 
 /// Adds the place of a point, or `-`.
-pub(crate) fn push_site(
+pub(crate) fn push_spot(
     alloc: Global,
     text: &mut Vec<u8>,
     maps: &[PlaceMap],
