@@ -1,23 +1,22 @@
 -- The places that maps give are those of the definition.
 use Rattle.std.proofs.Common.{◌≡◌, ℕ, zero, suc, ◌+◌, ◌<◌, ◌≤◌, Bool, true, false, ◌&&◌, ◌⊎◌, inl, inr, List, [], ◌∷◌, length, get_or, slice_index, leb, cond, Some, refl, sym, ap, ◌∙◌, subst, arith}
-use Rattle.std.specs.Prelude.{map, slice_get}
-use Rattle.std.specs.List.{All, Contains}
-use Rattle.std.proofs.lemmas.Bool.{both_ways, cases_Bool}
+use Rattle.std.specs.Prelude.{slice_get}
+use Rattle.std.specs.List.{Contains}
+use Rattle.std.proofs.lemmas.Bool.{cases_Bool}
 use Rattle.std.proofs.lemmas.Bool.Decides.{nat_tests}
-use Rattle.std.proofs.lemmas.List.{get_or_default}
 use Rattle.std.proofs.lemmas.List.Elements.{All-contains}
 use Rattle.std.proofs.lemmas.Option.{get_or_from_slice_get, slice_get-get_or, slice_get_cases, slice_get_within}
 use Rattle.ck_base.specs.declared.refusals.Spot.{Spot}
 use Rattle.ck_base.specs.declared.refusals.Spot.TheVariants as spot
 use Rattle.ck_base.specs.declared.spans.Span.{Span}
 use Rattle.ck_lexer.specs.Bytes.{is_line_feed}
-use Rattle.ck_lexer.specs.PlaceMaps.{HasStart, IsLineOf, IsPlaceMapOf, NoFeeds, names_of, place_on, start_of}
+use Rattle.ck_lexer.specs.PlaceMaps.{HasStart, IsLineOf, IsPlaceMapOf, NoFeeds, names_of, start_of}
 use Rattle.ck_lexer.specs.Places.{Place, IsPlace}
 use Rattle.ck_lexer.specs.declared.places.Line.{Line}
 use Rattle.ck_lexer.specs.declared.places.PlaceMap.{PlaceMap}
 use Rattle.ck_lexer.proofs.OnePlace.{one_place}
-use Rattle.ck_texts.specs.Placed.{AreMapsOf, HasPlace, IsMapped, IsPlaceOf, IsSpotOf, IsSpotText, IsWithin, SaysPlaces, nowhere, of_file, at_place}
-use Rattle.ck_texts.specs.Printing.{first_of_file, file_name_of, later, latest, place_in, place_by, spot_text}
+use Rattle.ck_texts.specs.Placed.{AreMapsOf, HasPlace, IsMapped, IsSpotOf, IsSpotText, SaysPlaces, nowhere, of_file, at_place}
+use Rattle.ck_texts.specs.Printing.{first_of_file, later, latest, place_in, place_by, spot_text}
 use Rattle.ck_texts.specs.Views.{File}
 
 -- ---- The latest line

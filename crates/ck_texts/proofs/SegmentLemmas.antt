@@ -1,5 +1,5 @@
 -- Steps one after the other, and how they end.
-use Rattle.std.proofs.Common.{◌≡◌, ℕ, zero, suc, ◌+◌, ◌-◌, ◌<◌, Bool, true, false, List, [], ◌∷◌, ◌++◌, length, take, get_or, Option, Some, None, refl, sym, ap, ◌∙◌, arith}
+use Rattle.std.proofs.Common.{◌≡◌, ℕ, suc, ◌+◌, ◌-◌, ◌<◌, Bool, false, List, [], ◌∷◌, ◌++◌, length, take, get_or, Option, Some, None, refl, sym, ap, ◌∙◌, arith}
 use Rattle.std.proofs.Common.{append_assoc}
 use Rattle.std.specs.Prelude.{slice_get}
 use Rattle.std.proofs.lemmas.List.{append-nil, take_more}
@@ -34,28 +34,26 @@ step_lines-push flow names at point (s ∷ steps) step =
 
 -- a loop over steps, one step further: the lines, and the point
 pub step_lines-more : (flow : Flow) (names : Names) (at : Span → Place) (first point : ℕ) (steps : List Step) (i : ℕ)
-    (step : Step) (start now next : List ℕ) → i < length steps → step ≡ get_or steps i step
-    → point ≡ after_steps flow first (take i steps) → now ≡ start ++ step_lines flow names at first (take i steps)
-    → next ≡ now ++ step_line flow names at point step
+    (d : Step) (start now next : List ℕ) → i < length steps → point ≡ after_steps flow first (take i steps)
+    → now ≡ start ++ step_lines flow names at first (take i steps)
+    → next ≡ now ++ step_line flow names at point (get_or steps i d)
     → next ≡ start ++ step_lines flow names at first (take (i + 1) steps)
-step_lines-more flow names at first point steps i step start now next below is there known more =
-    let taken : take (i + 1) steps ≡ take i steps ++ step ∷ [] =
-    take_more steps i step below ∙ ap (λ s. take i steps ++ s ∷ []) (sym is) in
+step_lines-more flow names at first point steps i d start now next below there known more =
+    let step : Step = get_or steps i d in
     more ∙ (ap (λ p. now ++ step_line flow names at p step) there
     ∙ (ap (λ t. t ++ step_line flow names at (after_steps flow first (take i steps)) step) known
     ∙ (append_assoc start (step_lines flow names at first (take i steps))
     (step_line flow names at (after_steps flow first (take i steps)) step)
     ∙ ap (λ t. start ++ t) (sym (step_lines-push flow names at first (take i steps) step)
-    ∙ ap (step_lines flow names at first) (sym taken)))))
+    ∙ ap (step_lines flow names at first) (sym (take_more steps i d below))))))
 
-pub after_steps-more : (flow : Flow) (first point next : ℕ) (steps : List Step) (i : ℕ) (step : Step)
-    → i < length steps → step ≡ get_or steps i step → point ≡ after_steps flow first (take i steps)
-    → next ≡ after_step flow point step → next ≡ after_steps flow first (take (i + 1) steps)
-after_steps-more flow first point next steps i step below is there more =
-    let taken : take (i + 1) steps ≡ take i steps ++ step ∷ [] =
-    take_more steps i step below ∙ ap (λ s. take i steps ++ s ∷ []) (sym is) in
-    more ∙ (ap (λ p. after_step flow p step) there
-    ∙ (sym (after_steps-push flow first (take i steps) step) ∙ ap (after_steps flow first) (sym taken)))
+pub after_steps-more : (flow : Flow) (first point next : ℕ) (steps : List Step) (i : ℕ) (d : Step)
+    → i < length steps → point ≡ after_steps flow first (take i steps)
+    → next ≡ after_step flow point (get_or steps i d) → next ≡ after_steps flow first (take (i + 1) steps)
+after_steps-more flow first point next steps i d below there more =
+    more ∙ (ap (λ p. after_step flow p (get_or steps i d)) there
+    ∙ (sym (after_steps-push flow first (take i steps) (get_or steps i d))
+    ∙ ap (after_steps flow first) (sym (take_more steps i d below))))
 
 -- ---- The last step
 

@@ -1,8 +1,6 @@
 -- Texts whose places are those of the project's files: the place of a byte is the name, line and column that the lexer's
 -- definition gives it, and so is the place of a file's end. No offset has two places, so no text has two forms.
-use Rattle.std.specs.Prelude.{◌≡◌, ◌≤◌, ◌<◌, ℕ, List, length, map, All, Option, Some, slice_get, codes}
-use Rattle.ck_base.specs.declared.ops.Op.{Op}
-use Rattle.ck_base.specs.declared.files.SourceFile.{SourceFile}
+use Rattle.std.specs.Prelude.{◌≡◌, ◌≤◌, ◌<◌, ℕ, List, length, All, Some, slice_get, codes}
 use Rattle.ck_base.specs.declared.refusals.Refusal.{Refusal}
 use Rattle.ck_base.specs.declared.refusals.Spot.{Spot}
 use Rattle.ck_base.specs.declared.refusals.Spot.TheVariants as spot
@@ -12,7 +10,7 @@ use Rattle.ck_graph.specs.declared.points.ActName.{ActName}
 use Rattle.ck_graph.specs.declared.points.ActName.TheVariants as name
 use Rattle.ck_graph.specs.declared.points.PointKind.{PointKind}
 use Rattle.ck_graph.specs.declared.points.PointKind.TheVariants as kind
-use Rattle.ck_graph.specs.Flow.{Flow, Point, point_count, function_count}
+use Rattle.ck_graph.specs.Flow.{Flow, point_count, function_count}
 use Rattle.ck_kernel.specs.KernelTable.{IsRow}
 use Rattle.ck_lexer.specs.PlaceMaps.{IsPlaceMapOf}
 use Rattle.ck_lexer.specs.Places.{Place, IsPlace}

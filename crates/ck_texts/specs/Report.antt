@@ -4,7 +4,6 @@ use Rattle.std.specs.Fmt.{decimal}
 use Rattle.std.specs.Option.{option_map_or}
 use Rattle.ck_base.specs.declared.ops.Op.{Op}
 use Rattle.ck_base.specs.declared.ops.Op.TheVariants.{PairEnter, PairLeft}
-use Rattle.ck_base.specs.declared.refusals.Spot.{Spot}
 use Rattle.ck_base.specs.declared.spans.FnId.{FnId}
 use Rattle.ck_base.specs.declared.spans.Span.{Span}
 use Rattle.ck_base.specs.declared.states.State.TheVariants.{TI}
@@ -17,7 +16,7 @@ use Rattle.ck_graph.specs.declared.points.Label.{Label}
 use Rattle.ck_graph.specs.declared.points.Label.TheVariants as label
 use Rattle.ck_graph.specs.declared.points.PointKind.{PointKind}
 use Rattle.ck_graph.specs.declared.points.PointKind.TheVariants as kind
-use Rattle.ck_graph.specs.Flow.{Flow, Point, point_at, function_at}
+use Rattle.ck_graph.specs.Flow.{Flow, point_at, function_at}
 use Rattle.ck_kernel.specs.KernelTable.{call_at}
 use Rattle.ck_lexer.specs.Places.{Place}
 use Rattle.ck_segments.specs.Expansion.{goes_in}

@@ -1,4 +1,3 @@
-use Rattle.ck_graph.specs.Flow.{point_at}
 use Rattle.ck_texts.specs.Views.{names_of}
 use Rattle.ck_texts.proofs.GraphLemmas.{HasActName-at}
 use Rattle.ck_texts.proofs.reporting.called_name.Goals as goal
