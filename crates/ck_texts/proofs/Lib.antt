@@ -1,3 +1,6 @@
+-- The theorems: no text has two forms, and segments in form name functions of their graph
+pub mod OneText
+pub mod InForm
 -- The places that maps give are those of the definition
 pub mod PlaceLemmas
 -- Lines one after the other

@@ -2,6 +2,7 @@
 pub mod Placed
 pub mod Report
 pub mod Texts
+pub mod Laws
 -- What it rests on
 pub mod Lines
 -- From memory to plain values

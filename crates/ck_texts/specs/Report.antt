@@ -99,7 +99,8 @@ enter_line names site target = line (codes "  enter " ++ (site ++ (codes " " ++ 
 
 -- the edge of this number that leads from a point; a number that none has is read as a plain edge back to the point
 abbrev pub edge_at : Flow → ℕ → ℕ → Edge
-edge_at flow point k = slice_index_or (point_at flow point).edges k (record { to = record { 0 = point }; label = label.Plain })
+edge_at flow point k =
+    slice_index_or (point_at flow point).edges k (record { to = record { 0 = point }; label = label.Plain })
 
 -- an edge that is taken at a point of a kind
 abbrev pub edge_line : Names → List ℕ → PointKind → Edge → List ℕ
@@ -113,15 +114,16 @@ after_step flow point (way.Edge k) = (edge_at flow point k).to.0
 after_step flow point (way.Call target segment) = (edge_at flow point 0).to.0
 after_step flow point (way.Enter target) = point
 
-module _ (flow : Flow) (names : Names) (at : Span → Place) where
-  -- the place of a point
-  abbrev pub site : ℕ → List ℕ
-  site point = site_text at (point_at flow point).site
+-- the place of a point
+abbrev pub site : Flow → (Span → Place) → ℕ → List ℕ
+site flow at point = site_text at (point_at flow point).site
 
+module _ (flow : Flow) (names : Names) (at : Span → Place) where
+  -- a step that is taken at a point
   abbrev pub step_line : ℕ → Step → List ℕ
-  step_line point (way.Edge k) = edge_line names (site point) (point_at flow point).kind (edge_at flow point k)
-  step_line point (way.Call target segment) = call_line names (site point) target segment
-  step_line point (way.Enter target) = enter_line names (site point) target
+  step_line point (way.Edge k) = edge_line names (site flow at point) (point_at flow point).kind (edge_at flow point k)
+  step_line point (way.Call target segment) = call_line names (site flow at point) target segment
+  step_line point (way.Enter target) = enter_line names (site flow at point) target
 
   -- steps from a point on
   abbrev pub step_lines : ℕ → List Step → List ℕ
@@ -130,17 +132,22 @@ module _ (flow : Flow) (names : Names) (at : Span → Place) where
 
 -- ---- Segments
 
--- how a segment ends: the last at the alarm, one that goes into a call with no line of its own, and any other by returning
+-- how a segment ends: the last at the alarm, one that goes into a call with no line more, and any other by returning
 abbrev pub ending : Bool → Bool → List ℕ
 ending true enters = line (codes "  alarm")
 ending false true = []
 ending false false = line (codes "  return")
 
+-- a segment's number and function
+abbrev pub heading : Names → ℕ → FnId → List ℕ
+heading names number function =
+    line (codes "segment " ++ (decimal number ++ (codes " " ++ function_name names function)))
+
 module _ (flow : Flow) (names : Names) (at : Span → Place) where
   -- a segment and its number among so many
   abbrev pub segment_text : ℕ → ℕ → PlainSegment → List ℕ
   segment_text count number segment =
-      line (codes "segment " ++ (decimal number ++ (codes " " ++ function_name names segment.function))) ++
+      heading names number segment.function ++
       (step_lines flow names at (function_at flow segment.function.0).first.0 segment.steps ++
       ending (number == count) (goes_in segment.steps))
 
@@ -162,7 +169,7 @@ module _ (flow : Flow) (names : Names) (at : Span → Place) where
   abbrev pub alarm_line : ℕ → AlarmAt → List ℕ
   alarm_line number alarm =
       line (codes "alarm " ++ (decimal number ++ (codes " " ++ (kind_text alarm.kind ++ (codes " " ++
-      (site flow names at alarm.point.0 ++ (codes " " ++ called_name names (point_at flow alarm.point.0).kind)))))))
+      (site flow at alarm.point.0 ++ (codes " " ++ called_name names (point_at flow alarm.point.0).kind)))))))
 
 module _ (flow : Flow) (roots : List Root) (names : Names) (at : Span → Place) where
   -- an alarm and its number, with the way to it

@@ -9,6 +9,7 @@
 //! It must not know: how a verdict is reached, how a path is found, C, and where a text is written to.
 #![tactic(auto)]
 
+mod laws;
 mod names;
 mod refusing;
 mod reporting;
@@ -17,6 +18,7 @@ mod steps;
 mod verdicts;
 mod words;
 
+pub use laws::{one_refusal, one_report, segments_name_functions};
 pub use names::{FunctionName, NameBook};
 pub use refusing::refusal_text;
 pub use reporting::report_text;

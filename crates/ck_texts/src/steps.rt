@@ -29,7 +29,7 @@ pub(crate) fn push_site(
     requires named { AreNamesOf graph.now (names_of names.now) names.now.maps.items }
     requires there { point.0 < point_count graph.now }
     ensures { OnOk result (text.new.items ≡ text.old.items ++
-        spec.site graph.now (names_of names.now) (place_by names.now.maps.items) point.0) }
+        spec.site graph.now (place_by names.now.maps.items) point.0) }
 {
     push_spot(alloc, text, &names.maps, graph.site(point))
 }
@@ -47,7 +47,7 @@ fn push_named(
     requires named { AreNamesOf graph.now (names_of names.now) names.now.maps.items }
     requires there { point.0 < point_count graph.now }
     ensures { OnOk result (text.new.items ≡ text.old.items ++ (words.now ++
-        (spec.site graph.now (names_of names.now) (place_by names.now.maps.items) point.0 ++ (codes " " ++ name.now)))) }
+        (spec.site graph.now (place_by names.now.maps.items) point.0 ++ (codes " " ++ name.now)))) }
 {
     text.extend_from_slice(words.as_bytes())?;
     push_site(alloc, text, graph, names, point)?;
@@ -77,7 +77,7 @@ fn push_act(
     requires there { point.0 < point_count graph.now }
     requires act { HasActName (names_of names.now) act }
     ensures { OnOk result (text.new.items ≡ text.old.items ++ spec.act_line (names_of names.now)
-        (spec.site graph.now (names_of names.now) (place_by names.now.maps.items) point.0) op act) }
+        (spec.site graph.now (place_by names.now.maps.items) point.0) op act) }
 {
     if keeps_status(op) {
         return Ok(());
@@ -133,7 +133,7 @@ fn push_choice(
     requires named { AreNamesOf graph.now (names_of names.now) names.now.maps.items }
     requires there { point.0 < point_count graph.now }
     ensures { OnOk result (text.new.items ≡ text.old.items ++ spec.choose_line
-        (spec.site graph.now (names_of names.now) (place_by names.now.maps.items) point.0) label) }
+        (spec.site graph.now (place_by names.now.maps.items) point.0) label) }
 {
     if is_plain(label) {
         return Ok(());
@@ -178,8 +178,8 @@ fn push_edge(
     requires named { AreNamesOf graph.now (names_of names.now) names.now.maps.items }
     requires there { point.0 < point_count graph.now }
     ensures { OnOk result (text.new.items ≡ text.old.items ++
-        spec.edge_line (names_of names.now) (spec.site graph.now (names_of names.now)
-        (place_by names.now.maps.items) point.0) (point_at graph.now point.0).kind (spec.edge_at graph.now point.0 number)) }
+        spec.edge_line (names_of names.now) (spec.site graph.now (place_by names.now.maps.items) point.0)
+        (point_at graph.now point.0).kind (spec.edge_at graph.now point.0 number)) }
 {
     match *graph.kind(point) {
         PointKind::Plain => {

@@ -15,7 +15,7 @@ returns c =
     alarm_pieces c.args.text.now.items c.push_number.new.text.items c.push_kind.new.text.items c.push.new.self.items
     c.push_site.new.text.items c.push-2.new.self.items c.extend_from_slice.new.self.items c.push-3.new.self.items
     (decimal c.args.number) (kind_text c.args.at.now.kind)
-    (site c.args.graph.now names (place_by maps) c.args.at.now.point.0)
+    (site c.args.graph.now (place_by maps) c.args.at.now.point.0)
     (called_name names (point_at c.args.graph.now c.args.at.now.point.0).kind)
     c.in_ok-push_number.ensures c.in_ok-push_kind.ensures c.in_ok-push.ensures.items c.in_ok-push_site.ensures
     c.in_ok-push-2.ensures.items
