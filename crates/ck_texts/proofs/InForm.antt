@@ -1,5 +1,5 @@
 -- Segments in form name functions of their graph alone.
-use Rattle.std.proofs.Common.{◌≡◌, ℕ, ◌<◌, List, [], ◌∷◌, Some, length, get_or}
+use Rattle.std.proofs.Common.{ℕ, List, [], ◌∷◌, get_or}
 use Rattle.std.specs.List.{All}
 use Rattle.std.proofs.lemmas.List.Elements.{All-cons, All-nil}
 use Rattle.std.proofs.lemmas.Option.{slice_get-get_or}
@@ -7,7 +7,7 @@ use Rattle.ck_graph.specs.Faults.{IsSound}
 use Rattle.ck_graph.specs.Flow.{Flow}
 use Rattle.ck_graph.proofs.SoundGraphs.{target-below}
 use Rattle.ck_segments.specs.Follows.{Follows, StepsLead}
-use Rattle.ck_segments.specs.Form.{AreInForm, IsPathTo}
+use Rattle.ck_segments.specs.Form.{AreInForm}
 use Rattle.ck_segments.specs.Plain.{PlainSegment}
 use Rattle.ck_segments.specs.declared.segments.Step.{Step}
 use Rattle.ck_segments.specs.declared.segments.Step.TheVariants as way

@@ -1,16 +1,14 @@
 -- A verdict has one report, and a refusal one text: no offset of a file has two places.
-use Rattle.std.proofs.Common.{◌≡◌, ℕ, ◌+◌, ◌<◌, ◌≤◌, List, [], ◌∷◌, ◌++◌, length, get_or, slice_get, Some, refl, sym, ap, ◌∙◌, subst, ⊎_elim, arith}
+use Rattle.std.proofs.Common.{◌≡◌, ℕ, ◌+◌, ◌<◌, ◌≤◌, List, [], ◌∷◌, ◌++◌, length, refl, sym, ap, ◌∙◌, subst, ⊎_elim}
 use Rattle.std.specs.Prelude.{codes, ◌==◌}
 use Rattle.std.specs.Fmt.{decimal}
 use Rattle.std.proofs.lemmas.List.{get_or_past}
 use Rattle.std.proofs.str.Laws.{order}
-use Rattle.ck_base.specs.declared.refusals.Refusal.{Refusal}
 use Rattle.ck_base.specs.declared.refusals.Spot.{Spot}
 use Rattle.ck_base.specs.declared.refusals.Spot.TheVariants as spot
-use Rattle.ck_base.specs.declared.spans.FnId.{FnId}
 use Rattle.ck_base.specs.declared.spans.Span.{Span}
 use Rattle.ck_graph.specs.declared.entries.Root.{Root}
-use Rattle.ck_graph.specs.Flow.{Flow, Point, no_point, point_at, point_count, function_at}
+use Rattle.ck_graph.specs.Flow.{Flow, no_point, point_at, function_at}
 use Rattle.ck_lexer.specs.Places.{Place, IsPlace}
 use Rattle.ck_lexer.proofs.OnePlace.{one_place}
 use Rattle.ck_segments.specs.Expansion.{goes_in}
@@ -20,7 +18,7 @@ use Rattle.ck_segments.specs.declared.segments.Step.TheVariants as way
 use Rattle.ck_summary.specs.declared.reached.AlarmAt.{AlarmAt}
 use Rattle.ck_texts.specs.Laws.{AreSitesWithin, IsSiteWithin, RefusalsHaveOneText, ReportsHaveOneText}
 use Rattle.ck_texts.specs.Lines.{first_line, line, place_text, site_text, numbered}
-use Rattle.ck_texts.specs.Placed.{IsPlaceOf, IsRefusalText, IsReport, IsSpotText, IsWithin, SaysPlaces, nowhere, of_file, at_place}
+use Rattle.ck_texts.specs.Placed.{IsPlaceOf, IsSpotText, SaysPlaces, nowhere, of_file, at_place}
 use Rattle.ck_texts.specs.Report as spec
 use Rattle.ck_texts.specs.Texts.{refusal_text}
 use Rattle.ck_texts.specs.Views.{File, Names, Outcome, PathToAlarm, accepted, rejected}
