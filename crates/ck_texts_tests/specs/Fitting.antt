@@ -1,5 +1,5 @@
 -- A project by hand that meets what a report requires.
-use Rattle.std.specs.Prelude.{◌≡◌, ◌≤◌, ◌<◌, ℕ, List, codes, length, map, All, Some, slice_get}
+use Rattle.std.specs.Prelude.{◌≡◌, ◌≤◌, ◌<◌, ℕ, List, codes, map, All, Some, slice_get}
 use Rattle.ck_base.specs.declared.files.SourceFile.{SourceFile}
 use Rattle.ck_base.specs.declared.refusals.Spot.{Spot}
 use Rattle.ck_base.specs.declared.refusals.Spot.TheVariants.{At}

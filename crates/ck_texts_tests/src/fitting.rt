@@ -148,8 +148,14 @@ pub fn fits(graph: &Graph, roots: &Roots, book: &NameBook, text: &str, verdict: 
     ensures { OnTrue result (AllFits graph.now roots.now.list.items (names_of book.now) book.now.maps.items
         (outcome_of verdict.now)) }
 {
-    book.functions.len() == graph.functions() as usize
-        && points_fit(graph, book, text.len())
-        && roots_fit(graph, roots)
-        && verdict_fits(graph, roots, verdict)
+    if book.functions.len() != graph.functions() as usize {
+        return false;
+    }
+    if !points_fit(graph, book, text.len()) {
+        return false;
+    }
+    if !roots_fit(graph, roots) {
+        return false;
+    }
+    verdict_fits(graph, roots, verdict)
 }
