@@ -64,14 +64,24 @@ pub type Found = (u32, Kind, u32, &'static [(u32, &'static [Way])]);
 #[derive(Clone, Copy)]
 pub struct Project {
     pub name: &'static str,
-    pub text: &'static str,
+    pub text: &'static [&'static str],
     pub points: &'static [Sketch],
     /// The name of each function, its first point and its exit.
     pub functions: &'static [(&'static str, u32, u32)],
     pub outside: &'static [&'static str],
     pub roots: &'static [u32],
     pub alarms: &'static [Found],
-    pub report: &'static str,
+    pub report: &'static [&'static str],
+}
+
+/// These lines, each with its line feed.
+pub fn text_of(alloc: Global, lines: &[&str]) -> Result<String, AllocError> {
+    let mut text = String::new(alloc);
+    for line in lines {
+        text.push_str(line)?;
+        text.push('\n')?;
+    }
+    Ok(text)
 }
 
 /// The offset of a column of a line.
@@ -91,13 +101,13 @@ pub fn offset_of(text: &str, line: u32, column: u32) -> u32 {
 }
 
 /// The site at a line and a column, where a marker on the first line is not counted.
-fn site_at(project: &Project, site: (u32, u32)) -> Spot {
+fn site_at(text: &str, site: (u32, u32)) -> Spot {
     let (line, column) = site;
     if line == 0 {
         return Spot::Nowhere;
     }
-    let marker = u32::from(project.text.starts_with('#'));
-    let start = offset_of(project.text, line.saturating_add(marker), column);
+    let marker = u32::from(text.starts_with('#'));
+    let start = offset_of(text, line.saturating_add(marker), column);
     Spot::At(Span {
         file: 0,
         start,
@@ -141,7 +151,7 @@ fn targets_of(alloc: Global, numbers: &[u32]) -> Result<Vec<FnId>, AllocError> {
     Ok(targets)
 }
 
-fn point_of(alloc: Global, project: &Project, sketch: &Sketch) -> Result<PointPart, AllocError>
+fn point_of(alloc: Global, text: &str, sketch: &Sketch) -> Result<PointPart, AllocError>
     ensures { IfOk result (λ part. vec_len part.edges < 2 ^ 32) }
 {
     let (what, function, site, ways, targets) = *sketch;
@@ -154,7 +164,7 @@ fn point_of(alloc: Global, project: &Project, sketch: &Sketch) -> Result<PointPa
     Ok(PointPart {
         kind,
         function: FnId(function),
-        site: site_at(project, site),
+        site: site_at(text, site),
         path: Vec::new(alloc),
         order: Vec::new(alloc),
         side: 1,
@@ -163,7 +173,7 @@ fn point_of(alloc: Global, project: &Project, sketch: &Sketch) -> Result<PointPa
     })
 }
 
-fn parts_of(alloc: Global, project: &Project) -> Result<Parts, AllocError>
+fn parts_of(alloc: Global, project: &Project, text: &str) -> Result<Parts, AllocError>
     ensures points { IfOk result (λ parts. vec_len parts.points < 2 ^ 32) }
     ensures functions { IfOk result (λ parts. vec_len parts.functions < 2 ^ 32) }
     ensures edges { IfOk result (λ parts. All (λ part. vec_len part.edges < 2 ^ 32) parts.points.items) }
@@ -171,7 +181,7 @@ fn parts_of(alloc: Global, project: &Project) -> Result<Parts, AllocError>
     let mut points = Vec::new(alloc);
     for sketch in project.points {
         if points.len() < MOST {
-            points.push(point_of(alloc, project, sketch)?)?;
+            points.push(point_of(alloc, text, sketch)?)?;
         }
     }
     let mut functions = Vec::new(alloc);
@@ -227,10 +237,10 @@ fn outside_of(alloc: Global, project: &Project) -> Result<Vec<String>, AllocErro
     Ok(names)
 }
 
-fn book_of(alloc: Global, project: &Project) -> Result<NameBook, Fail>
-    ensures { IfOk result (λ book. HasMap book.maps.items project.now.text.now) }
+fn book_of(alloc: Global, project: &Project, text: &str) -> Result<NameBook, Fail>
+    ensures { IfOk result (λ book. HasMap book.maps.items text.now) }
 {
-    let map = map_of(alloc, project.text)?.ok_or("too long")?;
+    let map = map_of(alloc, text)?.ok_or("too long")?;
     let functions = names_of(alloc, project)?;
     let outside = outside_of(alloc, project)?;
     let mut maps = Vec::new(alloc);
@@ -286,16 +296,21 @@ fn verdict_of(alloc: Global, project: &Project) -> Result<Verdict, AllocError> {
     Ok(Verdict::Rejected(alarms))
 }
 
-fn graph_of(alloc: Global, project: &Project) -> Result<Graph, Fail> {
-    Ok(checked(parts_of(alloc, project)?).ok().ok_or("a fault")?)
+fn graph_of(alloc: Global, project: &Project, text: &str) -> Result<Graph, Fail> {
+    Ok(
+        checked(parts_of(alloc, project, text)?)
+            .ok()
+            .ok_or("a fault")?,
+    )
 }
 
 /// The report of a verdict on a project, or nothing where a number names nothing.
 fn report_on(alloc: Global, project: &Project, verdict: Verdict) -> Result<Option<Vec<u8>>, Fail> {
-    let graph = graph_of(alloc, project)?;
+    let text = text_of(alloc, project.text)?;
+    let graph = graph_of(alloc, project, &text)?;
     let roots = roots_of(alloc, project)?;
-    let book = book_of(alloc, project)?;
-    if fits(&graph, &roots, &book, project.text, &verdict) {
+    let book = book_of(alloc, project, &text)?;
+    if fits(&graph, &roots, &book, &text, &verdict) {
         Ok(Some(report_text(alloc, &graph, &roots, &book, &verdict)?))
     } else {
         Ok(None)

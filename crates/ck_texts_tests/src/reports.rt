@@ -3,7 +3,7 @@
 use crate::projects::Called::{self, Kernel, Outside, Return, ThreadReturn};
 use crate::projects::Way::{Call, Edge, Enter};
 use crate::projects::What::{self, Act, Exit, Plain};
-use crate::projects::{Project, accepted_report, report_of};
+use crate::projects::{Project, accepted_report, report_of, text_of};
 use ck_base::Kind::{Order as OrderBroken, P, Sv};
 use ck_base::Op::{
     Disable, Enable, Epilogue, ExitNormal, GetStatus, HandlerReturn, Init, Lock, LockIsr, Neutral,
@@ -20,7 +20,15 @@ const ON: Label = Label::Plain;
 /// The second lock is SV#4. The text has no line marker.
 const DOUBLE_LOCK: Project = Project {
     name: "double lock",
-    text: "void chSysInit(void);\nvoid chSysLock(void);\nint main(void) {\n  chSysInit();\n  chSysLock();\n  chSysLock();\n}\n",
+    text: &[
+        "void chSysInit(void);",
+        "void chSysLock(void);",
+        "int main(void) {",
+        "  chSysInit();",
+        "  chSysLock();",
+        "  chSysLock();",
+        "}",
+    ],
     points: &[
         (Act(Init, Kernel("chSysInit")), 0, (4, 3), &[(1, ON)], &[]),
         (Act(Lock, Kernel("chSysLock")), 0, (5, 3), &[(2, ON)], &[]),
@@ -33,13 +41,33 @@ const DOUBLE_LOCK: Project = Project {
     outside: &[],
     roots: &[1],
     alarms: &[(2, Sv(4), 0, &[(1, &[Enter(0)]), (0, &[Edge(0), Edge(0)])])],
-    report: "rtcheck 1\nrejected 1\nalarm 1 SV#4 main.i:6:3 chSysLock\nentry main\nsegment 1 [main]\n  enter main.i:3:5 main\nsegment 2 main\n  act main.i:4:3 chSysInit\n  act main.i:5:3 chSysLock\n  alarm\n",
+    report: &[
+        "rtcheck 1",
+        "rejected 1",
+        "alarm 1 SV#4 main.i:6:3 chSysLock",
+        "entry main",
+        "segment 1 [main]",
+        "  enter main.i:3:5 main",
+        "segment 2 main",
+        "  act main.i:4:3 chSysInit",
+        "  act main.i:5:3 chSysLock",
+        "  alarm",
+    ],
 };
 
 /// Past the lock, the unlock is SV#5.
 const LOCK_IN_ONE_BRANCH: Project = Project {
     name: "lock in one branch",
-    text: "# 1 \"main.c\"\nint v;\nint main(void) {\n  chSysInit();\n  if (v) chSysLock();\n  chSysUnlock();\n  return 0;\n}\n",
+    text: &[
+        "# 1 \"main.c\"",
+        "int v;",
+        "int main(void) {",
+        "  chSysInit();",
+        "  if (v) chSysLock();",
+        "  chSysUnlock();",
+        "  return 0;",
+        "}",
+    ],
     points: &[
         (Plain, 0, (2, 5), &[(1, ON)], &[]),
         (Act(Init, Kernel("chSysInit")), 0, (3, 3), &[(2, ON)], &[]),
@@ -65,13 +93,33 @@ const LOCK_IN_ONE_BRANCH: Project = Project {
         0,
         &[(1, &[Enter(0)]), (0, &[Edge(0), Edge(0), Edge(1)])],
     )],
-    report: "rtcheck 1\nrejected 1\nalarm 1 SV#5 main.c:5:3 chSysUnlock\nentry main\nsegment 1 [main]\n  enter main.c:2:5 main\nsegment 2 main\n  act main.c:3:3 chSysInit\n  choose main.c:4:7 false\n  alarm\n",
+    report: &[
+        "rtcheck 1",
+        "rejected 1",
+        "alarm 1 SV#5 main.c:5:3 chSysUnlock",
+        "entry main",
+        "segment 1 [main]",
+        "  enter main.c:2:5 main",
+        "segment 2 main",
+        "  act main.c:3:3 chSysInit",
+        "  choose main.c:4:7 false",
+        "  alarm",
+    ],
 };
 
 /// The helper returns before its epilogue, which its return finds.
 const RETURN_BEFORE_EPILOGUE: Project = Project {
     name: "return before epilogue",
-    text: "# 1 \"main.c\"\nint v;\nvoid Vector40(void) {\n  CH_IRQ_PROLOGUE();\n  if (v) return;\n  CH_IRQ_EPILOGUE();\n}\nint main(void) { chSysInit(); while (1) {} }\n",
+    text: &[
+        "# 1 \"main.c\"",
+        "int v;",
+        "void Vector40(void) {",
+        "  CH_IRQ_PROLOGUE();",
+        "  if (v) return;",
+        "  CH_IRQ_EPILOGUE();",
+        "}",
+        "int main(void) { chSysInit(); while (1) {} }",
+    ],
     points: &[
         (Plain, 0, (2, 6), &[(1, ON)], &[]),
         (
@@ -114,13 +162,36 @@ const RETURN_BEFORE_EPILOGUE: Project = Project {
             (3, &[Call(0, 0)]),
         ],
     )],
-    report: "rtcheck 1\nrejected 1\nalarm 1 P#3 main.c:2:6 return\nentry vector Vector40\nsegment 1 Vector40\n  act main.c:3:3 CH_IRQ_PROLOGUE\n  choose main.c:4:7 true\n  return\nsegment 2 [vector Vector40]\n  call main.c:2:6 Vector40 1\n  alarm\n",
+    report: &[
+        "rtcheck 1",
+        "rejected 1",
+        "alarm 1 P#3 main.c:2:6 return",
+        "entry vector Vector40",
+        "segment 1 Vector40",
+        "  act main.c:3:3 CH_IRQ_PROLOGUE",
+        "  choose main.c:4:7 true",
+        "  return",
+        "segment 2 [vector Vector40]",
+        "  call main.c:2:6 Vector40 1",
+        "  alarm",
+    ],
 };
 
 /// The points of the timer's function have no site.
 const SLEEP_IN_A_TIMER_CALLBACK: Project = Project {
     name: "sleep in a timer callback",
-    text: "# 1 \"main.c\"\nvirtual_timer_t t;\nvoid tick(void *p) {\n  chThdSleep(10);\n}\nint main(void) {\n  chSysInit();\n  chVTSet(&t, 100, tick, 0);\n  while (1) {}\n}\n",
+    text: &[
+        "# 1 \"main.c\"",
+        "virtual_timer_t t;",
+        "void tick(void *p) {",
+        "  chThdSleep(10);",
+        "}",
+        "int main(void) {",
+        "  chSysInit();",
+        "  chVTSet(&t, 100, tick, 0);",
+        "  while (1) {}",
+        "}",
+    ],
     points: &[
         (Plain, 0, (2, 6), &[(1, ON)], &[]),
         (
@@ -197,13 +268,34 @@ const SLEEP_IN_A_TIMER_CALLBACK: Project = Project {
             (0, &[Edge(0)]),
         ],
     )],
-    report: "rtcheck 1\nrejected 1\nalarm 1 SV#4 main.c:3:3 chThdSleep\nentry timer\nsegment 1 [timer]\n  act - CH_IRQ_PROLOGUE\n  act - chSysLockFromISR\n  choose - 1\n  act - chSysUnlockFromISR\n  enter - tick\nsegment 2 tick\n  alarm\n",
+    report: &[
+        "rtcheck 1",
+        "rejected 1",
+        "alarm 1 SV#4 main.c:3:3 chThdSleep",
+        "entry timer",
+        "segment 1 [timer]",
+        "  act - CH_IRQ_PROLOGUE",
+        "  act - chSysLockFromISR",
+        "  choose - 1",
+        "  act - chSysUnlockFromISR",
+        "  enter - tick",
+        "segment 2 tick",
+        "  alarm",
+    ],
 };
 
 /// In the second order, `g` unlocks before `f` has locked.
 const ORDER_OF_OPERANDS: Project = Project {
     name: "order of operands",
-    text: "# 1 \"main.c\"\nint f(void) { chSysLock(); return 1; }\nint g(void) { chSysUnlock(); return 2; }\nint main(void) {\n  chSysInit();\n  return f() + g();\n}\n",
+    text: &[
+        "# 1 \"main.c\"",
+        "int f(void) { chSysLock(); return 1; }",
+        "int g(void) { chSysUnlock(); return 2; }",
+        "int main(void) {",
+        "  chSysInit();",
+        "  return f() + g();",
+        "}",
+    ],
     points: &[
         (Plain, 0, (1, 5), &[(1, ON)], &[]),
         (Act(Lock, Kernel("chSysLock")), 0, (1, 15), &[(2, ON)], &[]),
@@ -246,13 +338,35 @@ const ORDER_OF_OPERANDS: Project = Project {
             (1, &[Edge(0)]),
         ],
     )],
-    report: "rtcheck 1\nrejected 1\nalarm 1 SV#5 main.c:2:15 chSysUnlock\nentry main\nsegment 1 [main]\n  enter main.c:3:5 main\nsegment 2 main\n  act main.c:4:3 chSysInit\n  choose main.c:5:10 order 2\n  enter main.c:5:16 g\nsegment 3 g\n  alarm\n",
+    report: &[
+        "rtcheck 1",
+        "rejected 1",
+        "alarm 1 SV#5 main.c:2:15 chSysUnlock",
+        "entry main",
+        "segment 1 [main]",
+        "  enter main.c:3:5 main",
+        "segment 2 main",
+        "  act main.c:4:3 chSysInit",
+        "  choose main.c:5:10 order 2",
+        "  enter main.c:5:16 g",
+        "segment 3 g",
+        "  alarm",
+    ],
 };
 
 /// `bump` returns with its pair open. Its begin isn't printed.
 const PAIR_LEFT_OPEN: Project = Project {
     name: "pair left open",
-    text: "# 1 \"main.c\"\nint n;\nvoid bump(void) {\n  syssts_t s = chSysGetStatusAndLockX();\n  if (n) return;\n  chSysRestoreStatusX(s);\n}\nint main(void) { chSysInit(); bump(); while (1) {} }\n",
+    text: &[
+        "# 1 \"main.c\"",
+        "int n;",
+        "void bump(void) {",
+        "  syssts_t s = chSysGetStatusAndLockX();",
+        "  if (n) return;",
+        "  chSysRestoreStatusX(s);",
+        "}",
+        "int main(void) { chSysInit(); bump(); while (1) {} }",
+    ],
     points: &[
         (Plain, 0, (2, 6), &[(1, ON)], &[]),
         (Act(PairEnter, Called::Entry), 0, (2, 6), &[(2, ON)], &[]),
@@ -294,14 +408,37 @@ const PAIR_LEFT_OPEN: Project = Project {
             (0, &[Edge(0), Edge(0), Edge(0), Edge(0), Edge(0)]),
         ],
     )],
-    report: "rtcheck 1\nrejected 1\nalarm 1 P#8 main.c:2:6 return\nentry main\nsegment 1 [main]\n  enter main.c:7:5 main\nsegment 2 main\n  act main.c:7:18 chSysInit\n  enter main.c:7:31 bump\nsegment 3 bump\n  act main.c:3:16 chSysGetStatusAndLockX\n  choose main.c:4:7 true\n  alarm\n",
+    report: &[
+        "rtcheck 1",
+        "rejected 1",
+        "alarm 1 P#8 main.c:2:6 return",
+        "entry main",
+        "segment 1 [main]",
+        "  enter main.c:7:5 main",
+        "segment 2 main",
+        "  act main.c:7:18 chSysInit",
+        "  enter main.c:7:31 bump",
+        "segment 3 bump",
+        "  act main.c:3:16 chSysGetStatusAndLockX",
+        "  choose main.c:4:7 true",
+        "  alarm",
+    ],
 };
 
 /// Three alarms in a thread, which calls a helper twice by one finished segment, an outside function and a
 /// `switch`, whose own names and lines come from two markers.
 const SEVERAL_ALARMS: Project = Project {
     name: "several alarms",
-    text: "# 1 \"main.c\"\nvoid help(void) { chSysUnlock(); }\n# 40 \"wo\\\"rk.c\"\nvoid work(void *p) {\n  help(); help(); led();\n  switch (v) { case 1: break; case 7: chSysDisable(); }\n  chSysEnable();\n}\n",
+    text: &[
+        "# 1 \"main.c\"",
+        "void help(void) { chSysUnlock(); }",
+        "# 40 \"wo\\\"rk.c\"",
+        "void work(void *p) {",
+        "  help(); help(); led();",
+        "  switch (v) { case 1: break; case 7: chSysDisable(); }",
+        "  chSysEnable();",
+        "}",
+    ],
     points: &[
         (Plain, 0, (1, 6), &[(1, ON)], &[]),
         (
@@ -372,7 +509,46 @@ const SEVERAL_ALARMS: Project = Project {
             ],
         ),
     ],
-    report: "rtcheck 1\nrejected 3\nalarm 1 ORDER main.c:1:19 chSysUnlock\nentry thread work\nsegment 1 [thread work]\n  enter wo\\\"rk.c:40:6 work\nsegment 2 work\n  enter wo\\\"rk.c:41:3 help\nsegment 3 help\n  alarm\nalarm 2 SV#1 wo\\\"rk.c:42:39 chSysDisable\nentry thread work\nsegment 1 help\n  act main.c:1:19 chSysUnlock\n  return\nsegment 2 [thread work]\n  enter wo\\\"rk.c:40:6 work\nsegment 3 work\n  call wo\\\"rk.c:41:3 help 1\n  call wo\\\"rk.c:41:11 help 1\n  act wo\\\"rk.c:41:19 led\n  choose wo\\\"rk.c:42:11 case 2\n  alarm\nalarm 3 P#4 wo\\\"rk.c:40:6 thread return\nentry thread work\nsegment 1 help\n  act main.c:1:19 chSysUnlock\n  return\nsegment 2 work\n  call wo\\\"rk.c:41:3 help 1\n  call wo\\\"rk.c:41:11 help 1\n  act wo\\\"rk.c:41:19 led\n  choose wo\\\"rk.c:42:11 default\n  act wo\\\"rk.c:43:3 chSysEnable\n  return\nsegment 3 [thread work]\n  call wo\\\"rk.c:40:6 work 2\n  alarm\n",
+    report: &[
+        "rtcheck 1",
+        "rejected 3",
+        "alarm 1 ORDER main.c:1:19 chSysUnlock",
+        "entry thread work",
+        "segment 1 [thread work]",
+        "  enter wo\\\"rk.c:40:6 work",
+        "segment 2 work",
+        "  enter wo\\\"rk.c:41:3 help",
+        "segment 3 help",
+        "  alarm",
+        "alarm 2 SV#1 wo\\\"rk.c:42:39 chSysDisable",
+        "entry thread work",
+        "segment 1 help",
+        "  act main.c:1:19 chSysUnlock",
+        "  return",
+        "segment 2 [thread work]",
+        "  enter wo\\\"rk.c:40:6 work",
+        "segment 3 work",
+        "  call wo\\\"rk.c:41:3 help 1",
+        "  call wo\\\"rk.c:41:11 help 1",
+        "  act wo\\\"rk.c:41:19 led",
+        "  choose wo\\\"rk.c:42:11 case 2",
+        "  alarm",
+        "alarm 3 P#4 wo\\\"rk.c:40:6 thread return",
+        "entry thread work",
+        "segment 1 help",
+        "  act main.c:1:19 chSysUnlock",
+        "  return",
+        "segment 2 work",
+        "  call wo\\\"rk.c:41:3 help 1",
+        "  call wo\\\"rk.c:41:11 help 1",
+        "  act wo\\\"rk.c:41:19 led",
+        "  choose wo\\\"rk.c:42:11 default",
+        "  act wo\\\"rk.c:43:3 chSysEnable",
+        "  return",
+        "segment 3 [thread work]",
+        "  call wo\\\"rk.c:40:6 work 2",
+        "  alarm",
+    ],
 };
 
 const PROJECTS: [Project; 7] = [
@@ -387,8 +563,9 @@ const PROJECTS: [Project; 7] = [
 
 /// Whether a project has its report, byte for byte.
 fn has_report(alloc: Global, project: &Project) -> Result<bool, Fail> {
+    let expected = text_of(alloc, project.report)?;
     match report_of(alloc, project)? {
-        Some(text) => Ok(text.as_slice() == project.report.as_bytes()),
+        Some(text) => Ok(text.as_slice() == expected.as_bytes()),
         None => Ok(false),
     }
 }
@@ -408,7 +585,10 @@ fn has_counts(alloc: Global) -> Result<bool, Fail> {
         functions: 6,
         entries: 5,
     };
-    let expected = "rtcheck 1\naccepted\nfiles 1 functions 6 entries 5\n";
+    let expected = text_of(
+        alloc,
+        &["rtcheck 1", "accepted", "files 1 functions 6 entries 5"],
+    )?;
     match accepted_report(alloc, &DOUBLE_LOCK, counts)? {
         Some(text) => Ok(text.as_slice() == expected.as_bytes()),
         None => Ok(false),

@@ -5,4 +5,5 @@ use Rattle.ck_graph.specs.Flow.{function_count}
 use Rattle.ck_texts_tests.proofs.fitting.roots_fit.Given as goal
 
 abbrev pub invariant-loop-root : goal.invariant-loop-root
-invariant-loop-root l = All (λ (root : Root). root.function.0 < function_count l.graph) (take l.root-index l.roots.list.items)
+invariant-loop-root l =
+    All (λ (root : Root). root.function.0 < function_count l.graph) (take l.root-index l.roots.list.items)

@@ -9,6 +9,6 @@ returns c = record {
   places = c.in_ok-map.map;
   there = ap (λ maps. slice_get maps 0)
       (c.in_ok-push.ensures.items ∙ ap (λ maps. maps ++ c.in_ok-map.map ∷ []) c.new-maps.ensures.items);
-  is = subst (λ found. IfSome found (IsPlaceMapOf (codes "main.i") c.args.project.now.text.now))
+  is = subst (λ found. IfSome found (IsPlaceMapOf (codes "main.i") c.args.text.now))
       c.in_ok-map.ensures.ok_part c.in_ok-map_of.ensures;
 }
