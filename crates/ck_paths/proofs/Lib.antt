@@ -1,0 +1,6 @@
+pub mod Lists
+pub mod Links
+pub mod Growing
+pub mod Steps
+pub mod Chains
+pub mod Closing

@@ -1,0 +1,4 @@
+-- Private
+pub mod Found
+pub mod Justified
+pub mod Search
