@@ -4,3 +4,5 @@ pub mod Growing
 pub mod Steps
 pub mod Chains
 pub mod Closing
+pub mod Citations
+pub mod Pending

@@ -2,3 +2,5 @@
 pub mod Found
 pub mod Justified
 pub mod Search
+pub mod Citing
+pub mod Tracing

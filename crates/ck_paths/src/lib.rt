@@ -10,6 +10,8 @@
 //! It must not know: C, names, texts, and how the alarms were found.
 #![tactic(auto)]
 
+mod exits;
 mod found;
 mod search;
 mod states;
+mod tracing;
