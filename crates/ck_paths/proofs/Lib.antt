@@ -6,3 +6,4 @@ pub mod Chains
 pub mod Closing
 pub mod Citations
 pub mod Pending
+pub mod Traces

@@ -50,7 +50,8 @@ fn step_before(
         (λ back. LeadsFrom graph.now found.now.places.items exits.now at back.from back.step) }
 {
     match found.places[at as usize].reason {
-        Reason::AtRoot(_) | Reason::IntoCall(_) => None,
+        Reason::AtRoot(_) => None,
+        Reason::IntoCall(_) => None,
         Reason::ByEdge(from, edge) => Some(StepBack {
             step: Step::Edge(edge),
             from,
