@@ -7,3 +7,5 @@ pub mod Closing
 pub mod Citations
 pub mod Pending
 pub mod Traces
+pub mod Opening
+pub mod Segmenting

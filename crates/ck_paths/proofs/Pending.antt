@@ -96,11 +96,13 @@ pending-more flow roots places n exit taken old mid new all p takes adds = recor
     | inl before ↦ takes.below x before
     | inr here ↦ cited-below flow roots places all false exit x here
   ]
+
   on : (x : ℕ) → IsIn old x → IsListed (exit ∷ taken) x ⊎ IsIn new x
   on x h = elim (takes.kept x h) [
     | inl same ↦ inl (0, ap Some (sym same))
     | inr still ↦ inr (adds.kept x still)
   ]
+
   again : (x : ℕ) → IsCitedBy places n taken x → IsCitedBy places n (exit ∷ taken) x
   again x (inl direct) = inl direct
   again x (inr through) = inr (through.0, listed-cons exit taken through.0 through.1, through.2)

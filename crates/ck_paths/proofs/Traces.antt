@@ -41,6 +41,7 @@ traced-none flow places exits n below =
         runs = (refl, refl);
         inside = All-nil IsInside;
       };
+      earlier = omega arith;
       up = λ on x h. h;
       down = λ on x h. inr h;
     }
@@ -67,9 +68,12 @@ trace-cons flow places exits a b n before place step steps at_b at one_call runs
       one_call =
           one_call-then flow before place trace.to one_call
           (subst (λ (p : Place). AreInOneCall flow p trace.to) same trace.one_call);
-      runs =
-          (place.point.0, place.to, runs,
-          subst (λ (p : Place). StepsRun flow through p.point.0 p.to steps trace.to.point.0 trace.to.to) same trace.runs);
+      runs = (
+        place.point.0,
+        place.to,
+        runs,
+        subst (λ (p : Place). StepsRun flow through p.point.0 p.to steps trace.to.point.0 trace.to.to) same trace.runs,
+      );
       inside = All-cons IsInside step steps inside trace.inside;
     }
 
@@ -126,6 +130,7 @@ pub traced-more : (flow : Flow) (places : List Place) (exits : List ℕ) (a b n 
     IsTraced flow places exits b n (step ∷ steps)
 traced-more flow places exits a b n step steps leads traced = record {
   trace = leads.more n steps traced.trace;
+  earlier = omega (arith, leads.earlier, traced.earlier);
   up = λ on x h. traced.up on x (leads.up on x h);
   down = λ on x h. elim (traced.down on x h) [
     | inl done ↦ inl (done.0, contains-cons step steps done.0 done.1, done.2)

@@ -1,8 +1,10 @@
 -- From a place back to where its function is entered. It serves private contracts alone.
-use Rattle.std.specs.Prelude.{◌≡◌, ◌<◌, ◌⊎◌, ⊤, ℕ, Bool, List, ◌∷◌, All, Contains, Some, map, slice_get, slice_index_or, take}
+use Rattle.std.specs.Prelude.{◌≡◌, ◌<◌, ◌≤◌, ◌⊎◌, ◌++◌, ⊤, ℕ, Bool, List, [], ◌∷◌, All, Contains, Some, length, map, slice_get, slice_index_or, take}
 use Rattle.ck_base.specs.declared.spans.FnId.{FnId}
 use Rattle.ck_base.specs.declared.states.State.TheVariants.{TI}
 use Rattle.ck_graph.specs.Flow.{Flow, point_at}
+use Rattle.ck_graph.specs.Steps.{kind_at}
+use Rattle.ck_graph.specs.Forbidden.{PointAlarm, alarm_in}
 use Rattle.ck_segments.specs.declared.segments.Step.{Step}
 use Rattle.ck_segments.specs.declared.segments.Step.TheVariants.{Edge, Call, Enter}
 use Rattle.ck_segments.specs.Plain.{PlainSegment}
@@ -71,19 +73,49 @@ pub record IsEntryAt (flow : Flow) (places : List Place) (a : ℕ) : Type 0 wher
 -- the steps lead to a place from where its function is entered, over the calls that the way back cites
 pub record IsTraced (flow : Flow) (places : List Place) (exits : List ℕ) (a n : ℕ) (steps : List Step) : Type 0 where
   pub trace : IsTrace flow places exits a n steps
+  pub earlier : a ≤ n
   pub up : (on : Bool) (x : ℕ) → Cites places on a x → Cites places on n x
   pub down : (on : Bool) (x : ℕ) → Cites places on n x → HasCallTo exits steps x ⊎ Cites places on a x
 
--- a segment leads through its function to the exit that is the place of this number
-pub record LeadsToExit (flow : Flow) (places : List Place) (exits : List ℕ) (x : ℕ) (segment : PlainSegment) : Type 0 where
-  pub entry : ℕ
+-- a segment leads to a place from where its function is entered
+pub record IsSegmentTo (flow : Flow) (places : List Place) (exits : List ℕ) (entry n : ℕ) (segment : PlainSegment) : Type 0 where
   pub entered : IsEntryAt flow places entry
-  pub traced : IsTraced flow places exits entry x segment.steps
-  pub function : segment.function ≡ own_function flow traced.trace.to
+  pub traced : IsTraced flow places exits entry n segment.steps
+  pub function : segment.function ≡ own_function flow entered.place
+
+-- a segment leads to a call at a place, and goes into this function
+pub record IsSegmentInto (flow : Flow) (places : List Place) (exits : List ℕ) (entry c : ℕ) (target : FnId) (segment : PlainSegment) : Type 0 where
+  pub entered : IsEntryAt flow places entry
+  pub before : List Step
+  pub traced : IsTraced flow places exits entry c before
+  pub ends : segment.steps ≡ before ++ Enter target ∷ []
+  pub function : segment.function ≡ own_function flow entered.place
 
 -- a segment for each exit, which cites those before it
 pub record AreToExits (flow : Flow) (places : List Place) (exits : List ℕ) (segments : List PlainSegment) : Type 0 where
+  pub same : length segments ≡ length exits
   pub each :
       (s x : ℕ) → slice_get exits s ≡ Some x →
-      (segment : PlainSegment) × (slice_get segments s ≡ Some segment) ×
-      LeadsToExit flow places (take s exits) x segment
+      (segment : PlainSegment) × (slice_get segments s ≡ Some segment) × (entry : ℕ) ×
+      IsSegmentTo flow places (take s exits) entry x segment
+
+-- the function that starts at the place of this number is entered by the call at another
+pub record IsEnteredFrom (places : List Place) (entry c : ℕ) : Type 0 where
+  pub place : Place
+  pub at : IsAt places entry place
+  pub cause : place.reason ≡ IntoCall c
+
+-- segments lead from where the first one's function is entered to a place, each going into the next
+abbrev pub AreOpen : Flow → List Place → List ℕ → ℕ → List PlainSegment → ℕ → Type 0
+AreOpen flow places exits entry [] n = ⊥
+AreOpen flow places exits entry (segment ∷ []) n = IsSegmentTo flow places exits entry n segment
+AreOpen flow places exits entry (segment ∷ (next ∷ rest)) n =
+    (e : ℕ) × (c : ℕ) × IsEnteredFrom places e c × IsSegmentInto flow places exits entry c next.function segment ×
+    AreOpen flow places exits e (next ∷ rest) n
+
+-- the place of this number raises the alarm
+pub record IsRaisedAt (flow : Flow) (places : List Place) (alarm : PointAlarm) (n : ℕ) : Type 0 where
+  pub place : Place
+  pub at : IsAt places n place
+  pub there : place.point.0 ≡ alarm.point
+  pub raised : alarm_in (kind_at flow place.point.0) place.to ≡ Some alarm.kind

@@ -10,6 +10,7 @@
 //! It must not know: C, names, texts, and how the alarms were found.
 #![tactic(auto)]
 
+mod building;
 mod exits;
 mod found;
 mod search;

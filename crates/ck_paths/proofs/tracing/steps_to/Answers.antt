@@ -12,8 +12,8 @@ back-init c = record {
   traced =
       subst
       (λ (steps : List Step).
-          IsTraced c.args.graph.now c.args.found.now.places.items c.args.exits.now c.args.number c.args.number
-          (reverse steps))
+      IsTraced c.args.graph.now c.args.found.now.places.items c.args.exits.now c.args.number c.args.number
+      (reverse steps))
       (sym c.new-steps.ensures.items)
       (traced-none c.args.graph.now c.args.found.now.places.items c.args.exits.now c.args.number c.requires.there);
 }
