@@ -9,3 +9,5 @@ pub mod Pending
 pub mod Traces
 pub mod Opening
 pub mod Segmenting
+pub mod SegmentRuns
+pub mod AlarmPlaces

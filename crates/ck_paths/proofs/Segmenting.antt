@@ -17,9 +17,12 @@ ascending-take exits s up i j less within =
     let part : List ℕ = take s exits in
     let at_j = get-take exits s j (get_or part j 0) (slice_get-get_or part j 0 within) in
     let at_i = get-take exits s i (get_or part i 0) (slice_get-get_or part i 0 (omega (arith, less, within))) in
-    omega
-    (arith, up i j less (slice_get_within exits j (get_or part j 0) at_j.1),
-    get_or_from_slice_get exits i (get_or part i 0) 0 at_i.1, get_or_from_slice_get exits j (get_or part j 0) 0 at_j.1)
+    omega (
+      arith,
+      up i j less (slice_get_within exits j (get_or part j 0) at_j.1),
+      get_or_from_slice_get exits i (get_or part i 0) 0 at_i.1,
+      get_or_from_slice_get exits j (get_or part j 0) 0 at_j.1,
+    )
 
 -- the segment of this number leads to the exit of this number
 abbrev pub IsThere : Flow → List Place → List ℕ → List PlainSegment → ℕ → ℕ → Type 0
@@ -41,10 +44,13 @@ module _ (flow : Flow) (places : List Place) (exits : List ℕ) where
         let exit : get_or exits s 0 ≡ x =
         ap (λ (n : ℕ). get_or exits n 0) number ∙ get_or_from_slice_get exits k x 0 at in
         let there : slice_get (old ++ segment ∷ []) k ≡ Some segment =
-        ap (slice_get (old ++ segment ∷ [])) (sym number ∙ sym same) ∙ at-last old segment in
-        (segment, there, entry,
-        subst (λ (n : ℕ). IsSegmentTo flow places (take n exits) entry x segment) number
-        (subst (λ (y : ℕ). IsSegmentTo flow places (take s exits) entry y segment) exit leads))
+        ap (slice_get (old ++ segment ∷ [])) (sym number ∙ sym same) ∙ at-last old segment in (
+          segment,
+          there,
+          entry,
+          subst (λ (n : ℕ). IsSegmentTo flow places (take n exits) entry x segment) number
+              (subst (λ (y : ℕ). IsSegmentTo flow places (take s exits) entry y segment) exit leads),
+        )
   ]
 
   pub segments-grow : (old new : List Segment) (segment : Segment) → new ≡ old ++ segment ∷ [] →

@@ -1,3 +1,5 @@
+-- What is promised
+pub mod Promise
 -- Private
 pub mod Found
 pub mod Justified

@@ -13,6 +13,10 @@
 mod building;
 mod exits;
 mod found;
+mod paths;
+mod raising;
 mod search;
 mod states;
 mod tracing;
+
+pub use paths::{path_to, paths_to};

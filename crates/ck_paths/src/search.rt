@@ -321,6 +321,7 @@ pub(crate) fn search_from(
 ) -> Result<Found, OutOfMemory>
     requires roots { All (λ root. root.function.0 < function_count graph.now) roots.now }
     requires table { IsMadeFor graph.now table.now }
+    ensures ready { IfOk result (λ found. IsReady graph.now found.places.items found.last.items) }
     ensures justified { IfOk result (λ found. AreJustified graph.now roots.now found.places.items) }
     ensures all { IfOk
         result
