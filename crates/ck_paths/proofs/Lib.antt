@@ -11,3 +11,4 @@ pub mod Opening
 pub mod Segmenting
 pub mod SegmentRuns
 pub mod AlarmPlaces
+pub mod Whole

@@ -23,7 +23,7 @@ use Rattle.ck_paths.specs.Tracing.{own_function, does_of, IsInside, IsTrace, IsE
 use Rattle.ck_paths.proofs.Citations.{one, holds}
 
 -- functions of one number are one
-same-function : (a b : FnId) → a.0 ≡ b.0 → a ≡ b
+pub same-function : (a b : FnId) → a.0 ≡ b.0 → a ≡ b
 same-function a b e = ap (λ (n : ℕ). let f : FnId = record { 0 = n } in f) e
 
 -- steps that run lead, apart from the states

@@ -91,7 +91,7 @@ leads-edge flow roots places exits a b k place all at is =
     }
 
 -- what a segment does that leads to the exit of this number
-does-there : (flow : Flow) (places : List Place) (exits : List ℕ) (s x : ℕ) (place : Place) → IsAt places x place →
+pub does-there : (flow : Flow) (places : List Place) (exits : List ℕ) (s x : ℕ) (place : Place) → IsAt places x place →
     slice_get exits s ≡ Some x → slice_get (does_of flow places exits) s ≡ Some (does_at flow place)
 does-there flow places exits s x place at listed =
     let does = λ (y : ℕ). does_at flow (slice_index_or places y no_place) in
