@@ -1,12 +1,20 @@
 -- The place of an alarm, as it is looked for along the links of its point.
-use Rattle.std.proofs.Common.{◌≡◌, ℕ, ◌<◌, ◌≤◌, ◌+◌, List, Some, slice_get, sym, ap, ◌∙◌, subst, inl, inr, arith}
+use Rattle.std.proofs.Common.{◌≡◌, ℕ, ◌<◌, ◌≤◌, ◌+◌, List, Some, length, get_or, refl, sym, ap, ◌∙◌, subst, inl, inr, arith}
 use Rattle.std.specs.Prelude.{◌⊎◌}
+use Rattle.std.specs.List.{Contains}
 use Rattle.std.proofs.lemmas.Bool.{cases_lt}
+use Rattle.std.proofs.lemmas.List.{get_or-map, length-map}
+use Rattle.ck_base.specs.declared.states.State.{State}
+use Rattle.ck_graph.specs.declared.entries.Root.{Root}
 use Rattle.ck_graph.specs.Flow.{Flow}
 use Rattle.ck_graph.specs.Steps.{kind_at}
-use Rattle.ck_graph.specs.Forbidden.{PointAlarm, alarm_in}
+use Rattle.ck_graph.specs.Walk.{Configuration}
+use Rattle.ck_graph.specs.Forbidden.{PointAlarm, ReachesAlarm, alarm_in}
+use Rattle.ck_graph.specs.Summary.{ReachesPair}
+use Rattle.ck_summary.specs.declared.reached.AlarmAt.{AlarmAt}
+use Rattle.ck_summary.specs.Alarms.{alarm_of, alarms_of}
 use Rattle.ck_paths.specs.declared.found.Place.{Place}
-use Rattle.ck_paths.specs.Found.{IsAt, AreLinked, last_at}
+use Rattle.ck_paths.specs.Found.{IsAt, HasPlace, AreLinked, last_at}
 use Rattle.ck_paths.specs.Tracing.{IsRaisedAt}
 use Rattle.ck_paths.proofs.Citations.{one}
 
@@ -45,3 +53,31 @@ pub raised-last : (flow : Flow) (places : List Place) (alarm : PointAlarm) (best
     IsRaisedOrBelow flow places alarm best link → IsRaisedAt flow places alarm best
 raised-last flow places alarm best link none (inl best_one) = best_one
 raised-last flow places alarm best link none (inr (m, raised, below)) = absurd (omega (arith, none, below))
+
+-- an alarm that a walk reaches is raised at a place, where the places have all that walks reach
+pub raised-from_reached : (flow : Flow) (roots : List Root) (places : List Place) (alarm : PointAlarm) →
+    ((p : ℕ) (i j : State) → ReachesPair flow roots p i j → HasPlace places p i j) → ReachesAlarm flow roots alarm →
+    (n : ℕ) × IsRaisedAt flow places alarm n
+raised-from_reached flow roots places alarm all reaches =
+    let c : Configuration = reaches.configuration in
+    let has = all c.top.point c.top.entered c.state (record { configuration = c; reached = reaches.reached; top = refl; state = refl }) in
+    let place : Place = has.place in (
+      has.number,
+      record {
+        place = place;
+        at = has.at;
+        there = has.point_is ∙ reaches.there;
+        raised =
+            ap (λ (p : ℕ). alarm_in (kind_at flow p) place.to) has.point_is ∙
+            (ap (λ (s : State). alarm_in (kind_at flow c.top.point) s) has.to_is ∙ reaches.forbidden);
+      },
+    )
+
+-- an alarm of a list is one of the list's plain ones
+pub contains-alarm : (alarms : List AlarmAt) (k : ℕ) (d : AlarmAt) → k < length alarms →
+    Contains (alarms_of alarms) (alarm_of (get_or alarms k d))
+contains-alarm alarms k d within = (
+  k,
+  omega (arith, within, length-map alarms alarm_of),
+  get_or-map alarm_of alarms k d (alarm_of (get_or alarms k d)) within,
+)

@@ -12,3 +12,4 @@ pub mod Segmenting
 pub mod SegmentRuns
 pub mod AlarmPlaces
 pub mod Whole
+pub mod Arriving

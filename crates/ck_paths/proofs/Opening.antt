@@ -1,5 +1,5 @@
 -- The unfinished segments, as they are found from the last on.
-use Rattle.std.proofs.Common.{◌≡◌, ℕ, ◌<◌, ◌≤◌, ◌++◌, Bool, true, false, List, [], ◌∷◌, Some, length, map, reverse, slice_get, refl, sym, ap, ◌∙◌, subst, inl, inr, arith}
+use Rattle.std.proofs.Common.{◌≡◌, ℕ, ◌<◌, ◌++◌, true, false, List, [], ◌∷◌, length, map, reverse, refl, sym, ap, ◌∙◌, subst}
 use Rattle.std.proofs.lemmas.List.{reverse-append}
 use Rattle.std.proofs.lemmas.Option.{slice_get_within}
 use Rattle.ck_base.specs.declared.spans.FnId.{FnId}
@@ -9,10 +9,9 @@ use Rattle.ck_segments.specs.declared.segments.Segment.{Segment}
 use Rattle.ck_segments.specs.Plain.{PlainSegment, segment_of}
 use Rattle.ck_paths.specs.declared.found.Place.{Place}
 use Rattle.ck_paths.specs.declared.found.Reason.TheVariants.{IntoCall}
-use Rattle.ck_paths.specs.Found.{IsAt}
 use Rattle.ck_paths.specs.Justified.{AreJustified, Enters}
 use Rattle.ck_paths.specs.Citing.{Cites, over, before, by_edge, in_caller}
-use Rattle.ck_paths.specs.Tracing.{own_function, IsEntryAt, IsSegmentTo, IsSegmentInto, IsEnteredFrom, AreOpen}
+use Rattle.ck_paths.specs.Tracing.{own_function, IsEntryAt, IsSegmentInto, IsEnteredFrom, AreOpen}
 use Rattle.ck_paths.proofs.Citations.{one, holds}
 
 -- what is cited inside a call is cited where the way goes on in the callers

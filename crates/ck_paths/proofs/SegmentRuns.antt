@@ -1,5 +1,5 @@
 -- What the segments do that were traced: they run, in the states of their places.
-use Rattle.std.proofs.Common.{◌≡◌, ℕ, ◌<◌, ◌++◌, List, [], ◌∷◌, Some, length, slice_get, refl, sym, ap, ◌∙◌, subst, arith}
+use Rattle.std.proofs.Common.{◌≡◌, ℕ, ◌<◌, ◌++◌, List, [], ◌∷◌, Some, slice_get, refl, sym, ap, ◌∙◌, subst, arith}
 use Rattle.std.specs.List.{All}
 use Rattle.std.proofs.lemmas.List.Elements.{All-nil, All-cons, All-head, All-tail}
 use Rattle.ck_base.specs.declared.spans.FnId.{FnId}
@@ -7,7 +7,7 @@ use Rattle.ck_base.specs.declared.states.State.{State}
 use Rattle.ck_graph.specs.declared.entries.Root.{Root}
 use Rattle.ck_graph.specs.Flow.{Flow, function_count}
 use Rattle.ck_graph.specs.Faults.{IsSound}
-use Rattle.ck_graph.specs.Steps.{first_of, exit_of, MayEnter}
+use Rattle.ck_graph.specs.Steps.{first_of, MayEnter}
 use Rattle.ck_segments.specs.declared.segments.Step.{Step}
 use Rattle.ck_segments.specs.declared.segments.Step.TheVariants.{Edge, Call, Enter}
 use Rattle.ck_segments.specs.Plain.{PlainSegment}

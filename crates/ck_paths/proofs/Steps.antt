@@ -1,5 +1,5 @@
 -- The reasons that the search gives hold.
-use Rattle.std.proofs.Common.{◌≡◌, ℕ, ◌<◌, ◌≤◌, List, Some, length, slice_get, refl, sym, ap, ◌∙◌, subst, arith}
+use Rattle.std.proofs.Common.{◌≡◌, ℕ, ◌<◌, List, Some, length, slice_get, refl, sym, ap, ◌∙◌, subst, arith}
 use Rattle.std.proofs.lemmas.Option.{slice_get_within}
 use Rattle.ck_base.specs.declared.ops.Op.{Op}
 use Rattle.ck_base.specs.declared.spans.PointId.{PointId}
@@ -7,13 +7,11 @@ use Rattle.ck_base.specs.declared.states.State.{State}
 use Rattle.ck_base.specs.declared.states.Outcome.TheVariants.{Next}
 use Rattle.ck_base.specs.Act.{act}
 use Rattle.ck_graph.specs.declared.points.Edge.{Edge}
-use Rattle.ck_graph.specs.declared.points.ActName.{ActName}
-use Rattle.ck_graph.specs.declared.points.PointKind.{PointKind}
 use Rattle.ck_graph.specs.declared.points.PointKind.TheVariants.{Plain, Act}
 use Rattle.ck_graph.specs.declared.entries.Root.{Root}
 use Rattle.ck_graph.specs.Flow.{Flow, point_at, function_at, function_count}
 use Rattle.ck_graph.specs.Faults.{IsSound, FitsKind}
-use Rattle.ck_graph.specs.Steps.{kind_at, first_of, exit_of, HasEdge, MayEnter, Leads}
+use Rattle.ck_graph.specs.Steps.{kind_at, first_of, exit_of, HasEdge, MayEnter}
 use Rattle.ck_graph.proofs.SoundGraphs.{edge-stays, target-below, there-from_edge}
 use Rattle.ck_segments.specs.Follows.{TakesEdge}
 use Rattle.ck_segments.specs.Runs.{StateLeads}

@@ -1,10 +1,10 @@
 -- One step more at the front of a trace, by the reason of the place to which it leads.
-use Rattle.std.proofs.Common.{◌≡◌, ℕ, zero, suc, ◌<◌, ◌≤◌, ◌⊎◌, Bool, true, false, List, [], ◌∷◌, ◌++◌, Some, None, length, map, slice_get, get_or, reverse, refl, sym, ap, ◌∙◌, subst, inl, inr, arith}
-use Rattle.std.specs.Prelude.{slice_index_or, Option, option_map}
-use Rattle.std.specs.List.{All, Contains}
+use Rattle.std.proofs.Common.{◌≡◌, ℕ, zero, suc, ◌<◌, ◌≤◌, List, [], ◌∷◌, Some, length, slice_get, get_or, refl, sym, ap, ◌∙◌, subst, inl, inr, arith}
+use Rattle.std.specs.Prelude.{slice_index_or, option_map}
+use Rattle.std.specs.List.{Contains}
 use Rattle.std.proofs.lemmas.List.Elements.{All-nil, All-cons}
 use Rattle.std.proofs.lemmas.Bool.{cases_lt}
-use Rattle.std.proofs.lemmas.Option.{same_Some, slice_get-map, slice_get-get_or, slice_get_within, get_or_from_slice_get}
+use Rattle.std.proofs.lemmas.Option.{slice_get-map, slice_get-get_or, slice_get_within, get_or_from_slice_get}
 use Rattle.ck_base.specs.declared.spans.FnId.{FnId}
 use Rattle.ck_base.specs.declared.states.State.{State}
 use Rattle.ck_graph.specs.declared.entries.Root.{Root}
@@ -17,8 +17,8 @@ use Rattle.ck_paths.specs.declared.found.Place.{Place}
 use Rattle.ck_paths.specs.declared.found.Reason.TheVariants.{ByEdge, OverCall}
 use Rattle.ck_paths.specs.Found.{IsAt}
 use Rattle.ck_paths.specs.Justified.{AreJustified, AreInOneCall, GoesAlong, Returns}
-use Rattle.ck_paths.specs.Citing.{Cites, by_edge, before as further_back, over, IsListed, AreAscending}
-use Rattle.ck_paths.specs.Tracing.{no_place, own_function, does_at, does_of, IsInside, IsTrace, CallsTo, HasCallTo, LeadsFrom, IsTraced}
+use Rattle.ck_paths.specs.Citing.{by_edge, before as further_back, IsListed, AreAscending}
+use Rattle.ck_paths.specs.Tracing.{no_place, own_function, does_at, does_of, IsInside, IsTrace, LeadsFrom, IsTraced}
 use Rattle.ck_paths.proofs.Citations.{one, holds, cites-edge, cites-over}
 
 there : (places : List Place) (n : ℕ) → n < length places → (place : Place) × IsAt places n place

@@ -1,11 +1,11 @@
 -- The segments of a path are in form and fit the states.
-use Rattle.std.proofs.Common.{◌≡◌, ℕ, ◌<◌, ◌≤◌, ◌+◌, ◌⊎◌, ◌++◌, suc, Bool, true, false, List, [], ◌∷◌, Some, length, map, get_or, slice_get, take, refl, sym, ap, ◌∙◌, subst, inl, inr, arith, length-append}
-use Rattle.std.specs.Prelude.{slice_index_or, Option, option_map}
-use Rattle.std.specs.List.{All, Contains}
+use Rattle.std.proofs.Common.{◌≡◌, ℕ, ◌<◌, ◌⊎◌, ◌++◌, suc, true, false, List, [], ◌∷◌, Some, length, get_or, slice_get, take, refl, sym, ap, ◌∙◌, subst, inl, inr, arith}
+use Rattle.std.specs.Prelude.{slice_index_or}
+use Rattle.std.specs.List.{Contains}
 use Rattle.std.proofs.lemmas.Bool.{cases_lt}
 use Rattle.std.proofs.lemmas.List.{take-map, length-map}
-use Rattle.std.proofs.lemmas.List.Elements.{Contains-append_left, Contains-append_right, Contains-get_or}
-use Rattle.std.proofs.lemmas.Option.{same_Some, slice_get-map, slice_get-get_or, slice_get_within, get_or_from_slice_get}
+use Rattle.std.proofs.lemmas.List.Elements.{Contains-append_left, Contains-append_right}
+use Rattle.std.proofs.lemmas.Option.{same_Some, slice_get-get_or, slice_get_within, get_or_from_slice_get}
 use Rattle.ck_base.specs.declared.spans.FnId.{FnId}
 use Rattle.ck_base.specs.declared.states.State.{State}
 use Rattle.ck_graph.specs.declared.entries.Root.{Root}
@@ -16,20 +16,19 @@ use Rattle.ck_segments.specs.declared.segments.Step.{Step}
 use Rattle.ck_segments.specs.declared.segments.Step.TheVariants.{Call, Enter}
 use Rattle.ck_segments.specs.Plain.{PlainSegment}
 use Rattle.ck_segments.specs.Follows.{StepsLead}
-use Rattle.ck_segments.specs.Form.{StaysWithin, IsPathTo, IsFinished, IsLast, GoesInto, AreUnfinished, IsCited, AreInForm}
+use Rattle.ck_segments.specs.Form.{IsFinished, AreUnfinished, IsCited, AreInForm}
 use Rattle.ck_segments.specs.Runs.{Through, StepsRun, RunsThrough, RunOn, StartsIn, Fit}
 use Rattle.ck_paths.specs.declared.found.Place.{Place}
-use Rattle.ck_paths.specs.declared.found.Reason.TheVariants.{AtRoot, IntoCall}
+use Rattle.ck_paths.specs.declared.found.Reason.TheVariants.{AtRoot}
 use Rattle.ck_paths.specs.Found.{IsAt}
 use Rattle.ck_paths.specs.Justified.{AreJustified, StartsAt, function_of}
-use Rattle.ck_paths.specs.Citing.{Cites, IsListed, AreAscending, AreExitsFor}
+use Rattle.ck_paths.specs.Citing.{Cites, AreAscending, AreExitsFor}
 use Rattle.ck_paths.specs.Search.{IsReady}
-use Rattle.ck_paths.specs.Tracing.{no_place, own_function, does_at, does_of, HasCallTo, IsEntryAt, IsSegmentTo, IsSegmentInto, AreToExits, IsEnteredFrom, AreOpen}
+use Rattle.ck_paths.specs.Tracing.{no_place, own_function, does_at, does_of, HasCallTo, IsSegmentTo, AreToExits, AreOpen}
 use Rattle.ck_paths.proofs.Lists.{take-get, get-take}
-use Rattle.ck_paths.proofs.Citations.{one, holds, cites-root, cites-caller}
+use Rattle.ck_paths.proofs.Citations.{one, cites-root, cites-caller}
 use Rattle.ck_paths.proofs.Traces.{does-there}
-use Rattle.ck_paths.proofs.Opening.{cited-in_caller}
-use Rattle.ck_paths.proofs.SegmentRuns.{AreMatched, RunsTo, RunsInto, same-function, lead-from_runs, stays-from_runs, runs-to, runs-into}
+use Rattle.ck_paths.proofs.SegmentRuns.{AreMatched, RunsTo, same-function, lead-from_runs, stays-from_runs, runs-to, runs-into}
 
 -- a number is at one place of an ascending list
 pub one-place : (xs : List ℕ) (i j x : ℕ) → AreAscending xs → slice_get xs i ≡ Some x → slice_get xs j ≡ Some x → i ≡ j
@@ -112,7 +111,7 @@ module _ (flow : Flow) (sound : IsSound flow) (roots : List Root) (places : List
         (m.0, take-get finished s k m.0 at.0 m.1, m.2);
   }
 
-  is-finished : (s : ℕ) (segment : PlainSegment) → slice_get finished s ≡ Some segment →
+  pub is-finished : (s : ℕ) (segment : PlainSegment) → slice_get finished s ≡ Some segment →
       IsFinished flow (take s finished) segment
   is-finished s segment there =
       let f = finished-of s segment there in
@@ -199,13 +198,16 @@ module _ (flow : Flow) (sound : IsSound flow) (roots : List Root) (places : List
                 | inr further ↦ inr further
               ]
         ] where
-      suc-place : {y : PlainSegment} → Contains (next ∷ rest) y → Contains (segment ∷ (next ∷ rest)) y
-      suc-place h = (suc h.0, omega (arith, h.1), h.2)
-      in-whole : HasCallTo exits into.before x → HasCallTo exits segment.steps x
-      in-whole h =
-          (h.0,
-          subst (λ (steps : List Step). Contains steps h.0) (sym into.ends)
-          (Contains-append_left into.before (Enter next.function ∷ []) h.0 h.1), h.2)
+          suc-place : {y : PlainSegment} → Contains (next ∷ rest) y → Contains (segment ∷ (next ∷ rest)) y
+          suc-place h = (suc h.0, omega (arith, h.1), h.2)
+
+          in-whole : HasCallTo exits into.before x → HasCallTo exits segment.steps x
+          in-whole h = (
+            h.0,
+            subst (λ (steps : List Step). Contains steps h.0) (sym into.ends)
+                (Contains-append_left into.before (Enter next.function ∷ []) h.0 h.1),
+            h.2,
+          )
 
     -- the unfinished segments run on, from the state in which the first one's function is entered
     runs-on : (segments : List PlainSegment) (entry : ℕ) (start : Place) → IsAt places entry start →
@@ -221,7 +223,7 @@ module _ (flow : Flow) (sound : IsSound flow) (roots : List Root) (places : List
         (callee.from, runs.runs, runs-on (next ∷ rest) e callee from.at going_on)
 
     -- the unfinished segments are in form
-    going-on : (segments : List PlainSegment) (entry : ℕ) (start : Place) → IsAt places entry start →
+    pub going-on : (segments : List PlainSegment) (entry : ℕ) (start : Place) → IsAt places entry start →
         AreOpen flow places exits entry segments n → AreUnfinished flow finished segments
     going-on [] entry start at are_open = absurd are_open
     going-on (segment ∷ []) entry start at are_open =
@@ -243,23 +245,25 @@ module _ (flow : Flow) (sound : IsSound flow) (roots : List Root) (places : List
         let own : next.function ≡ own_function flow callee = function-of (next ∷ rest) e callee from.at going_on in
         let runs = runs-into flow sound places last ready roots all exits entry c e next.function segment into from start callee at from.at own in
         let through : List Through = does_of flow places exits in
-        let first : ℕ = first_of flow segment.function.0 in
-        (record {
-          path = record {
-            function = runs.there;
-            steps =
-                lead-from_runs flow through segment.steps first start.from (first_of flow next.function.0) callee.from
-                runs.runs;
-          };
-          before = runs.before;
-          stays =
-              stays-from_runs flow through finished matched runs.before first start.from runs.caller.point.0 runs.caller.to
-              runs.inside runs.inner;
-          ends = runs.ends;
-        }, going-on (next ∷ rest) e callee from.at going_on)
+        let first : ℕ = first_of flow segment.function.0 in (
+          record {
+            path = record {
+              function = runs.there;
+              steps =
+                  lead-from_runs flow through segment.steps first start.from (first_of flow next.function.0) callee.from
+                  runs.runs;
+            };
+            before = runs.before;
+            stays =
+                stays-from_runs flow through finished matched runs.before first start.from runs.caller.point.0 runs.caller.to
+                runs.inside runs.inner;
+            ends = runs.ends;
+          },
+          going-on (next ∷ rest) e callee from.at going_on,
+        )
 
     -- each finished segment is cited
-    cited-finished : (unfinished : List PlainSegment) (entry k : ℕ) (start : Place) → IsAt places entry start →
+    pub cited-finished : (unfinished : List PlainSegment) (entry k : ℕ) (start : Place) → IsAt places entry start →
         start.reason ≡ AtRoot k → AreOpen flow places exits entry unfinished n →
         (s : ℕ) → s < length finished → IsCited (finished ++ unfinished) s
     cited-finished unfinished entry k start at root are_open s below =
@@ -277,24 +281,24 @@ module _ (flow : Flow) (sound : IsSound flow) (roots : List Root) (places : List
               by-call call.0 (Contains-append_left finished unfinished call.0 call.1) (take r exits)
               (λ m y is. (get-take exits r m y is).1) call.2 listed
         ] where
-      by-call : (segment : PlainSegment) → Contains (finished ++ unfinished) segment → (some : List ℕ) →
-          ((m y : ℕ) → slice_get some m ≡ Some y → slice_get exits m ≡ Some y) →
-          HasCallTo some segment.steps (get_or exits s 0) → slice_get exits s ≡ Some (get_or exits s 0) →
-          IsCited (finished ++ unfinished) s
-      by-call segment there some whole call listed =
-          let target : FnId = call.2.0 in
-          let m : ℕ = call.2.1 in
-          let same : m ≡ s = one-place exits m s (get_or exits s 0) are.ascending (whole m (get_or exits s 0) call.2.3) listed in
-          record {
-            segment = segment;
-            there = there;
-            target = target;
-            cites =
-                subst (λ (j : ℕ). Contains segment.steps (Call target j)) same
-                (subst (λ (step : Step). Contains segment.steps step) call.2.2 call.1);
-          }
+          by-call : (segment : PlainSegment) → Contains (finished ++ unfinished) segment → (some : List ℕ) →
+              ((m y : ℕ) → slice_get some m ≡ Some y → slice_get exits m ≡ Some y) →
+              HasCallTo some segment.steps (get_or exits s 0) → slice_get exits s ≡ Some (get_or exits s 0) →
+              IsCited (finished ++ unfinished) s
+          by-call segment there some whole call listed =
+              let target : FnId = call.2.0 in
+              let m : ℕ = call.2.1 in
+              let same : m ≡ s = one-place exits m s (get_or exits s 0) are.ascending (whole m (get_or exits s 0) call.2.3) listed in
+              record {
+                segment = segment;
+                there = there;
+                target = target;
+                cites =
+                    subst (λ (j : ℕ). Contains segment.steps (Call target j)) same
+                    (subst (λ (step : Step). Contains segment.steps step) call.2.2 call.1);
+              }
 
-    pub in-form : (unfinished : List PlainSegment) (entry k : ℕ) (start : Place) → IsAt places entry start →
+    unfoldable pub in-form : (unfinished : List PlainSegment) (entry k : ℕ) (start : Place) → IsAt places entry start →
         start.reason ≡ AtRoot k → AreOpen flow places exits entry unfinished n →
         (list : List PlainSegment) → list ≡ finished ++ unfinished → AreInForm flow list
     in-form unfinished entry k start at root are_open list parts = record {

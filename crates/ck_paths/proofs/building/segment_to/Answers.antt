@@ -1,4 +1,4 @@
-use Rattle.std.proofs.Common.{length, refl, sym, ap, ◌∙◌}
+use Rattle.std.proofs.Common.{length, refl, ap, ◌∙◌}
 use Rattle.std.proofs.lemmas.Option.{slice_get_read, slice_get_within}
 use Rattle.ck_paths.specs.declared.found.Place.{Place}
 use Rattle.ck_paths.specs.Found.{IsAt}

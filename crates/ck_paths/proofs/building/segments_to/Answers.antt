@@ -1,7 +1,5 @@
-use Rattle.std.proofs.Common.{◌≡◌, ◌<◌, ◌≤◌, ◌+◌, ◌++◌, ℕ, List, [], ◌∷◌, Some, length, map, get_or, slice_get, take, refl, sym, ap, ◌∙◌, subst, inl, inr, arith, length-append, length-take}
-use Rattle.std.proofs.lemmas.List.{length-map}
+use Rattle.std.proofs.Common.{◌≡◌, ◌++◌, List, [], ◌∷◌, length, map, get_or, sym, ap, subst, arith, length-append}
 use Rattle.std.proofs.lemmas.Option.{slice_get-get_or, slice_get_within}
-use Rattle.ck_segments.specs.declared.segments.Segment.{Segment}
 use Rattle.ck_segments.specs.Plain.{PlainSegment, segment_of}
 use Rattle.ck_paths.proofs.Segmenting.{IsThere, ascending-take, segments-each, segments-grow}
 use Rattle.ck_paths.proofs.building.segments_to.Goals as goal

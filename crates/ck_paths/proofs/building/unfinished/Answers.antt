@@ -1,6 +1,5 @@
-use Rattle.std.proofs.Common.{◌≡◌, ◌<◌, ℕ, List, ◌∷◌, [], length, map, reverse, refl, sym, ap, ◌∙◌, subst, inl, inr, arith}
+use Rattle.std.proofs.Common.{◌≡◌, List, ◌∷◌, [], length, map, reverse, refl, sym, ap, ◌∙◌, subst, inl, inr, arith}
 use Rattle.std.proofs.lemmas.Option.{slice_get_read, slice_get_within}
-use Rattle.ck_base.specs.declared.spans.PointId.{PointId}
 use Rattle.ck_segments.specs.declared.segments.Segment.{Segment}
 use Rattle.ck_segments.specs.Plain.{PlainSegment, segment_of}
 use Rattle.ck_paths.specs.declared.found.Place.{Place}

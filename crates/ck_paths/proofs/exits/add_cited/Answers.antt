@@ -1,4 +1,4 @@
-use Rattle.std.proofs.Common.{◌<◌, length, inl, inr, arith}
+use Rattle.std.proofs.Common.{inl, inr, arith}
 use Rattle.ck_paths.proofs.Pending.{walked-more, cited-all}
 use Rattle.ck_paths.proofs.exits.add_cited.Goals as goal
 

@@ -1,4 +1,4 @@
-use Rattle.std.proofs.Common.{ℕ, ◌<◌, length}
+use Rattle.std.proofs.Common.{◌<◌, length}
 use Rattle.ck_paths.specs.Citing.{WalkedBack}
 use Rattle.ck_paths.proofs.exits.add_cited.Given as goal
 

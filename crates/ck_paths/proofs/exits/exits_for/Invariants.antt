@@ -1,5 +1,5 @@
-use Rattle.std.proofs.Common.{ℕ, ◌≤◌, ◌-◌, length, reverse}
-use Rattle.ck_paths.specs.Citing.{IsListed, ArePending, IsIn}
+use Rattle.std.proofs.Common.{◌≤◌, ◌-◌, length, reverse}
+use Rattle.ck_paths.specs.Citing.{ArePending}
 use Rattle.ck_paths.proofs.exits.exits_for.Given as goal
 
 -- the exits so far are the greatest of those that are cited

@@ -1,8 +1,6 @@
-use Rattle.std.proofs.Common.{◌≡◌, ℕ, ◌<◌, List, length, refl, sym, ap, ◌∙◌, subst, arith}
+use Rattle.std.proofs.Common.{◌≡◌, ℕ, ◌<◌, length, refl, sym, ap, ◌∙◌, subst, arith}
 use Rattle.std.proofs.lemmas.Option.{slice_get_read}
-use Rattle.std.specs.List.{Contains}
 use Rattle.ck_base.specs.declared.spans.FnId.{FnId}
-use Rattle.ck_base.specs.declared.spans.PointId.{PointId}
 use Rattle.ck_graph.specs.Flow.{function_count}
 use Rattle.ck_summary.specs.Solution.{callers_at}
 use Rattle.ck_paths.specs.declared.found.Place.{Place}

@@ -1,5 +1,3 @@
-use Rattle.std.proofs.Common.{◌≤◌, length, get_or}
-use Rattle.std.specs.Prelude.{MatchResult}
 use Rattle.std.proofs.lemmas.List.Sorted.{searched}
 use Rattle.ck_paths.proofs.Traces.{never-lost, never-falls}
 use Rattle.ck_paths.proofs.tracing.segment_of.Goals as goal

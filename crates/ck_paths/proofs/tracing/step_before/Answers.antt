@@ -1,4 +1,4 @@
-use Rattle.std.proofs.Common.{length, refl, sym, ap, ◌∙◌, subst, inl, inr}
+use Rattle.std.proofs.Common.{length, refl, inl, inr}
 use Rattle.std.proofs.lemmas.Option.{slice_get_read, slice_get_within}
 use Rattle.ck_paths.specs.declared.found.Place.{Place}
 use Rattle.ck_paths.specs.declared.found.Reason.TheVariants.{AtRoot, IntoCall, OverCall}

@@ -1,4 +1,4 @@
-use Rattle.std.proofs.Common.{◌≡◌, ◌<◌, ◌++◌, false, List, [], ◌∷◌, length, reverse, sym, ap, ◌∙◌, subst, arith}
+use Rattle.std.proofs.Common.{◌≡◌, ◌++◌, false, List, [], ◌∷◌, reverse, sym, ap, ◌∙◌, subst, arith}
 use Rattle.std.proofs.lemmas.List.{reverse-append}
 use Rattle.ck_segments.specs.declared.segments.Step.{Step}
 use Rattle.ck_paths.specs.Tracing.{IsTraced}
