@@ -1,4 +1,5 @@
 -- What is promised
+pub mod Paths
 pub mod Expansion
 pub mod Form
 pub mod Follows

@@ -1,0 +1,15 @@
+pub mod Lists
+pub mod Links
+pub mod Growing
+pub mod Steps
+pub mod Chains
+pub mod Closing
+pub mod Citations
+pub mod Pending
+pub mod Traces
+pub mod Opening
+pub mod Segmenting
+pub mod SegmentRuns
+pub mod AlarmPlaces
+pub mod Whole
+pub mod Arriving

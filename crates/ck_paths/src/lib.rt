@@ -1,0 +1,22 @@
+//! Paths from roots to alarms: for each alarm that a walk reaches, a way there in segments.
+//!
+//! In: a checked graph, its roots, the table of its calls, and alarms that walks from the roots reach.
+//! Out: for each alarm segments that expand to a walk from a root to it. The definitions that rule it
+//! are ck_segments' (`Form.antt`, `Expansion.antt`) and ck_graph's walks. One breadth-first search over
+//! the pairs of states serves all alarms: each pair is kept with its reason, which cites earlier pairs
+//! alone, so what is printed is near the shortest in calls that were looked at. Which of several walks
+//! comes is open.
+//!
+//! It must not know: C, names, texts, and how the alarms were found.
+#![tactic(auto)]
+
+mod building;
+mod exits;
+mod found;
+mod paths;
+mod raising;
+mod search;
+mod states;
+mod tracing;
+
+pub use paths::{path_to, paths_to};
