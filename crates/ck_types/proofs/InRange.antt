@@ -23,7 +23,7 @@ use Rattle.ck_types.specs.declared.operators.NoValue.TheVariants.{DivisionByZero
 use Rattle.ck_types.specs.declared.operators.IntegerValue.{IntegerValue}
 use Rattle.ck_types.proofs.Conversions.{converts_into_range}
 
-either : {P : Type 0} (v : Bool) → (v ≡ true → P) → (v ≡ false → P) → P
+pub either : {P : Type 0} (v : Bool) → (v ≡ true → P) → (v ≡ false → P) → P
 either true p q = p refl
 either false p q = q refl
 

@@ -8,6 +8,9 @@ pub mod Compatible
 -- Constants by their bytes
 pub mod ConstantLemmas
 pub mod DigitValues
+-- Tables of types
+pub mod Tables
+pub mod NodeLemmas
 -- Products that 128 bits hold
 pub mod Products
 pub mod Quotients

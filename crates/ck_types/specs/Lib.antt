@@ -6,3 +6,7 @@ pub mod Compatibility
 -- What it rests on: the integer types and their conversions, and C types
 pub mod IntegerTypes
 pub mod Types
+-- From memory to plain values
+pub mod TypeTable
+-- Private
+pub mod SameNodes

@@ -15,6 +15,8 @@ mod integer_types;
 mod laws;
 mod literals;
 mod operators;
+mod type_nodes;
+mod types;
 
 pub use constants::{Suffix, constant_type};
 pub use integer_types::IntegerType;
@@ -24,3 +26,4 @@ pub use laws::{
 };
 pub use literals::{character_constant, integer_constant};
 pub use operators::{BinaryOperator, IntegerValue, NoValue, UnaryOperator};
+pub use types::{CType, ParametersId, Qualifiers, StructId, TypeId, Types};

@@ -1,0 +1,213 @@
+//! The types of a project in one table. A type that is made of others names them by their numbers, which are smaller; equal
+//! types have one number.
+ghost use Rattle.std.specs.Prelude.{◌≡◌, ◌<◌, true, false, [], None, length, IfOk};
+ghost use Rattle.ck_types.specs.TypeTable as spec;
+
+use crate::integer_types::IntegerType;
+use crate::type_nodes::find;
+use ck_base::OutOfMemory;
+use std::alloc::Global;
+use std::marker::Model;
+
+/// The number of a type in a table.
+#[derive(Clone, Copy, Debug, PartialEq, Eq)]
+pub struct TypeId(pub u32);
+
+/// The number of a list of parameters' types in a table.
+#[derive(Clone, Copy, Debug, PartialEq, Eq)]
+pub struct ParametersId(pub u32);
+
+/// The number of a struct of a project.
+#[derive(Clone, Copy, Debug, PartialEq, Eq)]
+pub struct StructId(pub u32);
+
+/// Qualifiers (6.7.3); `restrict` has no effect.
+#[derive(Clone, Copy, Debug, PartialEq, Eq)]
+pub struct Qualifiers {
+    /// `const`
+    pub constant: bool,
+    /// `volatile`
+    pub volatile: bool,
+}
+
+/// A type over the types before it in a table (6.2.5).
+#[derive(Clone, Copy, Debug, PartialEq, Eq)]
+pub enum CType {
+    /// `void`
+    Void,
+    /// An integer type, `_Bool` among them. An enumerated type is `int`.
+    Integer(IntegerType),
+    /// A pointer to a type with qualifiers (6.7.5.1).
+    Pointer {
+        qualifiers: Qualifiers,
+        to: TypeId,
+    },
+    /// An array of a type with qualifiers, of so many elements or of unknown size (6.7.5.2).
+    Array {
+        qualifiers: Qualifiers,
+        of: TypeId,
+        count: Option<u32>,
+    },
+    /// A struct (6.7.2.1).
+    Struct(StructId),
+    /// A function: its result with qualifiers, its parameters, and whether `...` is at their end (6.7.5.3).
+    Function {
+        qualifiers: Qualifiers,
+        result: TypeId,
+        parameters: ParametersId,
+        variadic: bool,
+    },
+}
+
+/// A node of a table.
+#[derive(Clone, Copy, Debug, PartialEq, Eq)]
+pub enum Node {
+    /// A type.
+    Type(CType),
+    /// The empty list of parameters.
+    NoParameters,
+    /// A parameter's type before other parameters.
+    Parameter { first: TypeId, rest: ParametersId },
+}
+
+/// The types of a project, each once. It is seen as the list of its nodes; `types_are_plain` says which types their numbers
+/// stand for.
+#[derive(Debug, Drop)]
+pub struct Types {
+    pub(crate) nodes: Vec<Node>,
+}
+
+impl Model for Types {
+    ghost use Rattle.std.specs.Prelude.{List};
+    ghost use Rattle.ck_types.specs.TypeTable.{IsTable};
+    ghost use Rattle.ck_types.specs.declared.types.Node.{Node as TableNode};
+
+    ghost Value = { List TableNode };
+
+    ghost view = { λ t. t.nodes.items };
+
+    ghost invariant = { λ t. IsTable t.nodes.items };
+}
+
+impl Types {
+    /// A table without types.
+    pub fn new(alloc: Global) -> Types
+        ensures { result ≡ [] }
+    {
+        Types {
+            nodes: Vec::new(alloc),
+        }
+    }
+
+    /// The number of a type, which is added where the table doesn't have it. What it names is in the table.
+    pub fn intern(&mut self, of: CType) -> Result<TypeId, OutOfMemory>
+        requires { spec.fits_type self.old of ≡ true }
+        ensures kept { spec.Extends self.old self.new }
+        ensures table { spec.IsTable self.new }
+        ensures number { IfOk result (λ id. spec.IsNode self.new id.0 (spec.type_node of)) }
+    {
+        Ok(TypeId(place(&mut self.nodes, Node::Type(of))?))
+    }
+
+    /// The number of the empty list of parameters.
+    pub fn no_parameters(&mut self) -> Result<ParametersId, OutOfMemory>
+        ensures kept { spec.Extends self.old self.new }
+        ensures table { spec.IsTable self.new }
+        ensures number { IfOk result (λ id. spec.IsNode self.new id.0 spec.no_parameters) }
+    {
+        Ok(ParametersId(place(&mut self.nodes, Node::NoParameters)?))
+    }
+
+    /// The number of a list of parameters: one more type before those of a list.
+    pub fn with_parameter(
+        &mut self,
+        first: TypeId,
+        rest: ParametersId,
+    ) -> Result<ParametersId, OutOfMemory>
+        requires first { spec.names_type self.old first.0 ≡ true }
+        requires rest { spec.names_list self.old rest.0 ≡ true }
+        ensures kept { spec.Extends self.old self.new }
+        ensures table { spec.IsTable self.new }
+        ensures number { IfOk result (λ id. spec.IsNode self.new id.0 (spec.parameter_node first rest)) }
+    {
+        Ok(ParametersId(place(&mut self.nodes, Node::Parameter { first, rest })?))
+    }
+
+    /// A type by its number.
+    pub fn node(&self, id: TypeId) -> CType
+        requires { spec.names_type self.now id.0 ≡ true }
+        ensures node { spec.IsNode self.now id.0 (spec.type_node result) }
+        ensures table { spec.IsTable self.now }
+    {
+        type_in(node_at(&self.nodes, id.0))
+    }
+
+    /// The first parameter of a list and the others, or none where it is empty.
+    pub fn parameter(&self, list: ParametersId) -> Option<(TypeId, ParametersId)>
+        requires { spec.names_list self.now list.0 ≡ true }
+        ensures node { spec.IsNode self.now list.0 (spec.list_node result) }
+        ensures table { spec.IsTable self.now }
+    {
+        list_in(node_at(&self.nodes, list.0))
+    }
+}
+
+/// The node of a number.
+fn node_at(nodes: &[Node], number: u32) -> Node
+    requires { number < length nodes.now }
+    ensures { spec.IsNode nodes.now number result }
+{
+    nodes[number as usize]
+}
+
+/// The type of a node that is one.
+fn type_in(node: Node) -> CType
+    ensures { spec.is_type node ≡ true → spec.type_node result ≡ node }
+{
+    match node {
+        Node::Type(of) => of,
+        _ => CType::Void,
+    }
+}
+
+/// The list of a node that is one.
+fn list_in(node: Node) -> Option<(TypeId, ParametersId)>
+    ensures { spec.is_type node ≡ false → spec.list_node result ≡ node }
+{
+    match node {
+        Node::Parameter { first, rest } => Some((first, rest)),
+        _ => None,
+    }
+}
+
+/// The number of a node, which is added where the table doesn't have it.
+fn place(nodes: &mut Vec<Node>, node: Node) -> Result<u32, OutOfMemory>
+    requires table { spec.IsTable nodes.old.items }
+    requires fits { spec.fits nodes.old.items node ≡ true }
+    ensures kept { spec.Extends nodes.old.items nodes.new.items }
+    ensures table { spec.IsTable nodes.new.items }
+    ensures number { IfOk result (λ id. spec.IsNode nodes.new.items id node) }
+{
+    let number = match find(nodes, node) {
+        Some(number) => number,
+        None => add(nodes, node)?,
+    };
+    match u32::try_from(number) {
+        Ok(number) => Ok(number),
+        Err(_) => Err(OutOfMemory),
+    }
+}
+
+/// Adds a node that isn't there, and gives its number.
+fn add(nodes: &mut Vec<Node>, node: Node) -> Result<usize, OutOfMemory>
+    requires table { spec.IsTable nodes.old.items }
+    requires fits { spec.fits nodes.old.items node ≡ true }
+    requires fresh { spec.IsFound nodes.old.items node None }
+    ensures kept { spec.Extends nodes.old.items nodes.new.items }
+    ensures table { spec.IsTable nodes.new.items }
+    ensures number { IfOk result (λ id. spec.IsNode nodes.new.items id node) }
+{
+    let number = nodes.len();
+    nodes.push(node)?;
+    Ok(number)
+}
