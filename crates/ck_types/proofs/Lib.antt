@@ -10,6 +10,8 @@ pub mod ConstantLemmas
 pub mod DigitValues
 -- Tables of types
 pub mod Tables
+pub mod Entries
+pub mod OneNumber
 pub mod NodeLemmas
 -- Products that 128 bits hold
 pub mod Products

@@ -62,16 +62,16 @@ integer-equal t u h =
     let s : is_signed t ≡ is_signed u = truth-equal (is_signed t) (is_signed u) parts.1 in
     sym (ranked-is t) ∙ ap (λ n. ranked n (is_signed t)) r ∙ ap (ranked (rank u)) s ∙ ranked-is u
 
-abbrev qualifiers : Bool → Bool → Qualifiers
+abbrev pub qualifiers : Bool → Bool → Qualifiers
 qualifiers c v = record { constant = c; volatile = v }
 
-abbrev type_id : ℕ → TypeId
+abbrev pub type_id : ℕ → TypeId
 type_id n = record { 0 = n }
 
-abbrev list_id : ℕ → ParametersId
+abbrev pub list_id : ℕ → ParametersId
 list_id n = record { 0 = n }
 
-abbrev struct_id : ℕ → StructId
+abbrev pub struct_id : ℕ → StructId
 struct_id n = record { 0 = n }
 
 written-equal : (p q : Qualifiers) → same_written p q ≡ true → p ≡ q

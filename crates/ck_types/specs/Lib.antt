@@ -3,6 +3,7 @@ pub mod Arithmetic
 pub mod ConstantTypes
 pub mod Ranges
 pub mod Compatibility
+pub mod TableLaws
 -- What it rests on: the integer types and their conversions, and C types
 pub mod IntegerTypes
 pub mod Types

@@ -1,7 +1,8 @@
 -- The plain types that the numbers of a table stand for: each node over the types of the nodes before it. Lists of
 -- parameters are nodes too, and share their ends.
 use Rattle.std.specs.Prelude.{◌≡◌, ◌≢◌, ◌<◌, ℕ, zero, suc, Bool, true, false, ◌&&◌, not, List, [], ◌∷◌, ◌++◌}
-use Rattle.std.specs.Prelude.{length, slice_index_or, Option, Some, None}
+use Rattle.std.specs.Prelude.{⊤, length, slice_index_or, Option, Some, None}
+use Rattle.ck_types.specs.declared.integer_types.IntegerType.{IntegerType}
 use Rattle.ck_types.specs.declared.types.CType.{CType as TypeNode}
 use Rattle.ck_types.specs.declared.types.CType.TheVariants as types
 use Rattle.ck_types.specs.declared.types.Node.{Node}
@@ -118,6 +119,15 @@ pub record IsNode (ns : List Node) (i : ℕ) (n : Node) : Type 0 where
 abbrev pub IsFound : List Node → Node → Option ℕ → Type 0
 IsFound ns n None = (i : ℕ) (d : Node) → i < length ns → slice_index_or ns i d ≢ n
 IsFound ns n (Some i) = IsNode ns i n
+
+-- the type is an integer type
+abbrev pub is_integer : TypeNode → Bool
+is_integer (types.Integer t) = true
+is_integer _ = false
+
+abbrev pub IfInteger : TypeNode → (IntegerType → Type 0) → Type 0
+IfInteger (types.Integer t) P = P t
+IfInteger _ P = ⊤
 
 abbrev pub type_node : TypeNode → Node
 type_node t = nodes.Type t

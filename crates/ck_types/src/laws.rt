@@ -1,6 +1,7 @@
 //! Laws about the definitions, each the contract of a function that does nothing.
 ghost use Rattle.ck_types.specs.Compatibility.{IsReflexive, IsSymmetric};
 ghost use Rattle.ck_types.specs.Ranges.{BinaryIsInRange, ConvertsIntoRange, ConvertsToItself, UnaryIsInRange};
+ghost use Rattle.ck_types.specs.TableLaws.{EqualTypesHaveOneNumber, NumbersStandForTypes, TablesKeepNumbers};
 
 /// A converted value is in the range of its type.
 pub fn converts_into_range()
@@ -26,4 +27,19 @@ pub fn compatible_is_reflexive()
 /// Of two types either both are compatible with the other or none is.
 pub fn compatible_is_symmetric()
     ensures { IsSymmetric }
+{}
+
+/// A number of a table stands for what its node makes of what the numbers in it stand for.
+pub fn numbers_stand_for_types()
+    ensures { NumbersStandForTypes }
+{}
+
+/// A table that grows keeps what its numbers stand for.
+pub fn tables_keep_numbers()
+    ensures { TablesKeepNumbers }
+{}
+
+/// Equal types have one number, and so do equal lists of parameters, where no two numbers name one struct.
+pub fn equal_types_have_one_number()
+    ensures { EqualTypesHaveOneNumber }
 {}

@@ -1,7 +1,9 @@
 //! The types of a project in one table. A type that is made of others names them by their numbers, which are smaller; equal
 //! types have one number.
 ghost use Rattle.std.specs.Prelude.{◌≡◌, ◌<◌, true, false, [], None, length, IfOk};
+ghost use Rattle.ck_types.specs.IntegerTypes.{converted};
 ghost use Rattle.ck_types.specs.TypeTable as spec;
+ghost use Rattle.ck_types.specs.TypeTable.{IfInteger};
 
 use crate::integer_types::IntegerType;
 use crate::type_nodes::find;
@@ -177,6 +179,18 @@ fn list_in(node: Node) -> Option<(TypeId, ParametersId)>
     match node {
         Node::Parameter { first, rest } => Some((first, rest)),
         _ => None,
+    }
+}
+
+/// A value converted to an integer type: for `_Bool` whether it is other than 0 (6.3.1.2), else what is left of it in the
+/// type's bits, which wraps where the type is signed (6.3.1.3).
+pub fn convert(value: i128, to: &CType) -> i128
+    requires { spec.is_integer to.now ≡ true }
+    ensures { IfInteger to.now (λ of. result ≡ converted of value) }
+{
+    match to {
+        CType::Integer(of) => of.convert(value),
+        _ => value,
     }
 }
 
