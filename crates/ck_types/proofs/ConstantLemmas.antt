@@ -1,6 +1,6 @@
 -- Constants: a value of 64 bits or more has no type, and the type that a constant has can represent it.
-use Rattle.std.proofs.Common.{◌≡◌, ℕ, ◌^◌, ◌≤◌, ℤ, pos, Bool, true, false, List, [], ◌∷◌, Option, Some, None}
-use Rattle.std.proofs.Common.{refl, ap, sym, ◌∙◌, subst, arith}
+use Rattle.std.proofs.Common.{◌≡◌, ℕ, ◌^◌, ◌≤◌, pos, Bool, true, false, List, [], ◌∷◌, Option, Some, None}
+use Rattle.std.proofs.Common.{refl, ap, arith}
 use Rattle.std.specs.Prelude.{⊤, IfSome, if◌then◌else◌}
 use Rattle.ck_types.specs.ConstantTypes.{candidates, constant_type, first_representing, with_value}
 use Rattle.ck_types.specs.IntegerTypes.{represents}
@@ -8,7 +8,6 @@ use Rattle.ck_types.specs.Ranges.{IsInRange}
 use Rattle.ck_types.specs.declared.constants.Suffix.{Suffix}
 use Rattle.ck_types.specs.declared.integer_types.IntegerType.{IntegerType}
 use Rattle.ck_types.specs.declared.integer_types.IntegerType.TheVariants as types
-use Rattle.ck_types.specs.declared.operators.IntegerValue.{IntegerValue}
 
 too-great : (t : IntegerType) (value : ℕ) → 2 ^ 64 ≤ value → represents t (pos value) ≡ false
 too-great types.Bool value h = grind (arith, h)

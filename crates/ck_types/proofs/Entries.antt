@@ -1,9 +1,8 @@
 -- What the numbers of a table stand for: each its node over the entries before it; a table that grows keeps them.
-use Rattle.std.proofs.Common.{◌≡◌, ℕ, zero, suc, ◌+◌, ◌<◌, ◌≤◌, true, List, [], ◌∷◌, ◌++◌, length, get_or}
-use Rattle.std.proofs.Common.{refl, ap, sym, subst, ◌∙◌, arith}
-use Rattle.std.specs.Prelude.{◌&&◌}
+use Rattle.std.proofs.Common.{◌≡◌, ℕ, zero, suc, ◌+◌, ◌<◌, true, List, [], ◌∷◌, ◌++◌, length, get_or}
+use Rattle.std.proofs.Common.{refl, ap, sym, ◌∙◌, arith}
 use Rattle.std.proofs.lemmas.Bool.{and_parts}
-use Rattle.ck_types.specs.TypeTable.{Entry, Extends, IsNode, IsTable, entries_after, entries_of, entry_at, entry_of}
+use Rattle.ck_types.specs.TypeTable.{Entry, entries_after, entries_of, entry_at, entry_of}
 use Rattle.ck_types.specs.TypeTable.{fits, fits_after, fits_type, list_at, names_list, names_type, plain_qualifiers}
 use Rattle.ck_types.specs.TypeTable.{as_list, as_type, type_at, type_of, AType, AList}
 use Rattle.ck_types.specs.TableLaws.{NumbersStandForTypes, TablesKeepNumbers}

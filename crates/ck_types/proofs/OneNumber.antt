@@ -1,15 +1,15 @@
 -- Equal entries of a table have one number.
-use Rattle.std.proofs.Common.{◌≡◌, ℕ, zero, suc, ◌+◌, ◌<◌, Bool, true, false, List, [], ◌∷◌, ◌++◌, length, take, get_or}
-use Rattle.std.proofs.Common.{Option, refl, ap, sym, subst, ◌∙◌, arith}
-use Rattle.std.specs.Prelude.{◌&&◌, ◌==◌, nat_lt}
-use Rattle.std.proofs.lemmas.Bool.{and_parts, eqb-true}
+use Rattle.std.proofs.Common.{◌≡◌, ℕ, zero, suc, ◌<◌, Bool, true, false, List, [], ◌∷◌, ◌++◌, length, take, get_or}
+use Rattle.std.proofs.Common.{refl, ap, sym, subst, ◌∙◌, arith}
+use Rattle.std.specs.Prelude.{nat_lt}
+use Rattle.std.proofs.lemmas.Bool.{and_parts}
 use Rattle.std.proofs.lemmas.Bool.Decides.{nat_tests}
 use Rattle.std.proofs.lemmas.List.{append_assoc, append-nil}
 use Rattle.ck_types.specs.TableLaws.{EqualTypesHaveOneNumber}
-use Rattle.ck_types.specs.TypeTable.{Entry, IsNode, IsTable, entries_of, entry_at, entry_of, fits, fits_after, fits_type}
+use Rattle.ck_types.specs.TypeTable.{Entry, IsTable, entries_of, entry_at, entry_of, fits, fits_after, fits_type}
 use Rattle.ck_types.specs.TypeTable.{is_type, list_at, names_list, names_type, plain_qualifiers, type_at, type_of}
 use Rattle.ck_types.specs.TypeTable.{as_list, as_type, AType, AList}
-use Rattle.ck_types.specs.Types.{CType as PlainType, Parameters, Qualifiers as PlainQualifiers, StructIdentity}
+use Rattle.ck_types.specs.Types.{Qualifiers as PlainQualifiers, StructIdentity}
 use Rattle.ck_types.specs.declared.types.CType.{CType}
 use Rattle.ck_types.specs.declared.types.CType.TheVariants as types
 use Rattle.ck_types.specs.declared.types.Node.{Node}

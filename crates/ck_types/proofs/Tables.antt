@@ -1,15 +1,14 @@
 -- A table that grows at its end is a table.
 use Rattle.std.proofs.Common.{◌≡◌, ℕ, zero, suc, ◌+◌, ◌<◌, Bool, true, false, List, [], ◌∷◌, ◌++◌, length, get_or}
-use Rattle.std.proofs.Common.{Option, Some, None, refl, ap, sym, subst, ◌∙◌, arith}
-use Rattle.std.specs.Prelude.{◌≢◌, ◌&&◌, ◌==◌, not}
+use Rattle.std.proofs.Common.{None, refl, ap, sym, subst, ◌∙◌, arith}
+use Rattle.std.specs.Prelude.{◌==◌, not}
 use Rattle.std.proofs.lemmas.Bool.{and_parts, eqb-true}
 use Rattle.std.proofs.lemmas.Bool.Decides.{nat_tests}
 use Rattle.std.proofs.lemmas.List.{append_assoc, append-nil, get_or_append_left}
 use Rattle.std.proofs.Math.Seq.{get_or-append_seam}
-use Rattle.ck_types.specs.TypeTable.{AreDistinct, Extends, IsFound, IsNode, IsTable, fits, fits_after, is_type}
-use Rattle.ck_types.specs.TypeTable.{names_list, names_type}
+use Rattle.ck_types.specs.TypeTable.{AreDistinct, IsFound, IsNode, IsTable, fits, fits_after, is_type}
+use Rattle.ck_types.specs.TypeTable.{names_as, names_list, names_type}
 use Rattle.ck_types.specs.declared.types.Node.{Node}
-use Rattle.ck_types.specs.declared.types.Node.TheVariants as nodes
 use Rattle.ck_types.proofs.Compatible.{and-true}
 use Rattle.ck_types.proofs.InRange.{either}
 
@@ -85,3 +84,31 @@ get_or-there (n ∷ ns) (suc i) d e h = get_or-there ns i d e (omega arith)
 
 pub is-node : (ns : List Node) (i : ℕ) (d n : Node) → i < length ns → get_or ns i d ≡ n → IsNode ns i n
 is-node ns i d n h e = record { within = h; is = λ c. get_or-there ns i c d h ∙ e }
+
+pub types-kept : (ns more : List Node) (i : ℕ) → names_type ns i ≡ true → names_type (ns ++ more) i ≡ true
+types-kept [] more i h = absurd (cc)
+types-kept (n ∷ ns) more zero h = h
+types-kept (n ∷ ns) more (suc i) h = types-kept ns more i h
+
+pub lists-kept : (ns more : List Node) (i : ℕ) → names_list ns i ≡ true → names_list (ns ++ more) i ≡ true
+lists-kept [] more i h = absurd (cc)
+lists-kept (n ∷ ns) more zero h = h
+lists-kept (n ∷ ns) more (suc i) h = lists-kept ns more i h
+
+-- a node that is there is named
+type-names : (ns : List Node) (i : ℕ) (d : Node) → i < length ns → is_type (get_or ns i d) ≡ true
+    → names_type ns i ≡ true
+type-names [] i d h e = absurd (omega arith)
+type-names (n ∷ ns) zero d h e = e
+type-names (n ∷ ns) (suc i) d h e = type-names ns i d (omega arith) e
+
+list-names : (ns : List Node) (i : ℕ) (d : Node) → i < length ns → is_type (get_or ns i d) ≡ false
+    → names_list ns i ≡ true
+list-names [] i d h e = absurd (omega arith)
+list-names (n ∷ ns) zero d h e = rw e refl
+list-names (n ∷ ns) (suc i) d h e = list-names ns i d (omega arith) e
+
+pub node-named : (ns : List Node) (i : ℕ) (n : Node) → IsNode ns i n → names_as n ns i ≡ true
+node-named ns i n node = either (is_type n)
+    (λ h. rw h (type-names ns i n node.within (ap is_type (node.is n) ∙ h)))
+    (λ h. rw h (list-names ns i n node.within (ap is_type (node.is n) ∙ h)))

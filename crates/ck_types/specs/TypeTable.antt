@@ -1,6 +1,7 @@
 -- The plain types that the numbers of a table stand for: each node over the types of the nodes before it. Lists of
 -- parameters are nodes too, and share their ends.
-use Rattle.std.specs.Prelude.{◌≡◌, ◌≢◌, ◌<◌, ℕ, zero, suc, Bool, true, false, ◌&&◌, not, List, [], ◌∷◌, ◌++◌}
+use Rattle.std.specs.Prelude.{◌≡◌, ◌≢◌, ◌<◌, ℕ, zero, suc, Bool, true, false, ◌&&◌, not, if◌then◌else◌}
+use Rattle.std.specs.Prelude.{List, [], ◌∷◌, ◌++◌}
 use Rattle.std.specs.Prelude.{⊤, length, slice_index_or, Option, Some, None}
 use Rattle.ck_types.specs.declared.integer_types.IntegerType.{IntegerType}
 use Rattle.ck_types.specs.declared.types.CType.{CType as TypeNode}
@@ -119,6 +120,17 @@ pub record IsNode (ns : List Node) (i : ℕ) (n : Node) : Type 0 where
 abbrev pub IsFound : List Node → Node → Option ℕ → Type 0
 IsFound ns n None = (i : ℕ) (d : Node) → i < length ns → slice_index_or ns i d ≢ n
 IsFound ns n (Some i) = IsNode ns i n
+
+-- what is named in a table stays named when it grows
+abbrev pub KeepsTypes : List Node → List Node → Type 0
+KeepsTypes old new = (i : ℕ) → names_type old i ≡ true → names_type new i ≡ true
+
+abbrev pub KeepsLists : List Node → List Node → Type 0
+KeepsLists old new = (i : ℕ) → names_list old i ≡ true → names_list new i ≡ true
+
+-- a number is one of a type where the node is, else one of a list
+abbrev pub names_as : Node → List Node → ℕ → Bool
+names_as n ns i = if is_type n then names_type ns i else names_list ns i
 
 -- the type is an integer type
 abbrev pub is_integer : TypeNode → Bool

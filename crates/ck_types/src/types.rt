@@ -105,8 +105,11 @@ impl Types {
     pub fn intern(&mut self, of: CType) -> Result<TypeId, OutOfMemory>
         requires { spec.fits_type self.old of ≡ true }
         ensures kept { spec.Extends self.old self.new }
+        ensures types { spec.KeepsTypes self.old self.new }
+        ensures lists { spec.KeepsLists self.old self.new }
         ensures table { spec.IsTable self.new }
         ensures number { IfOk result (λ id. spec.IsNode self.new id.0 (spec.type_node of)) }
+        ensures named { IfOk result (λ id. spec.names_type self.new id.0 ≡ true) }
     {
         Ok(TypeId(place(&mut self.nodes, Node::Type(of))?))
     }
@@ -114,8 +117,11 @@ impl Types {
     /// The number of the empty list of parameters.
     pub fn no_parameters(&mut self) -> Result<ParametersId, OutOfMemory>
         ensures kept { spec.Extends self.old self.new }
+        ensures types { spec.KeepsTypes self.old self.new }
+        ensures lists { spec.KeepsLists self.old self.new }
         ensures table { spec.IsTable self.new }
         ensures number { IfOk result (λ id. spec.IsNode self.new id.0 spec.no_parameters) }
+        ensures named { IfOk result (λ id. spec.names_list self.new id.0 ≡ true) }
     {
         Ok(ParametersId(place(&mut self.nodes, Node::NoParameters)?))
     }
@@ -129,8 +135,11 @@ impl Types {
         requires first { spec.names_type self.old first.0 ≡ true }
         requires rest { spec.names_list self.old rest.0 ≡ true }
         ensures kept { spec.Extends self.old self.new }
+        ensures types { spec.KeepsTypes self.old self.new }
+        ensures lists { spec.KeepsLists self.old self.new }
         ensures table { spec.IsTable self.new }
         ensures number { IfOk result (λ id. spec.IsNode self.new id.0 (spec.parameter_node first rest)) }
+        ensures named { IfOk result (λ id. spec.names_list self.new id.0 ≡ true) }
     {
         Ok(ParametersId(place(&mut self.nodes, Node::Parameter { first, rest })?))
     }
@@ -199,6 +208,8 @@ fn place(nodes: &mut Vec<Node>, node: Node) -> Result<u32, OutOfMemory>
     requires table { spec.IsTable nodes.old.items }
     requires fits { spec.fits nodes.old.items node ≡ true }
     ensures kept { spec.Extends nodes.old.items nodes.new.items }
+    ensures types { spec.KeepsTypes nodes.old.items nodes.new.items }
+    ensures lists { spec.KeepsLists nodes.old.items nodes.new.items }
     ensures table { spec.IsTable nodes.new.items }
     ensures number { IfOk result (λ id. spec.IsNode nodes.new.items id node) }
 {
@@ -218,6 +229,8 @@ fn add(nodes: &mut Vec<Node>, node: Node) -> Result<usize, OutOfMemory>
     requires fits { spec.fits nodes.old.items node ≡ true }
     requires fresh { spec.IsFound nodes.old.items node None }
     ensures kept { spec.Extends nodes.old.items nodes.new.items }
+    ensures types { spec.KeepsTypes nodes.old.items nodes.new.items }
+    ensures lists { spec.KeepsLists nodes.old.items nodes.new.items }
     ensures table { spec.IsTable nodes.new.items }
     ensures number { IfOk result (λ id. spec.IsNode nodes.new.items id node) }
 {

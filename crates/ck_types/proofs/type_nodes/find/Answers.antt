@@ -1,7 +1,6 @@
-use Rattle.std.proofs.Common.{◌≡◌, ℕ, ◌<◌, get_or, arith, sym, ◌∙◌, ap}
-use Rattle.ck_types.specs.SameNodes.{same_node}
+use Rattle.std.proofs.Common.{sym, ◌∙◌}
 use Rattle.ck_types.proofs.NodeLemmas.{differs-more, node-equal}
-use Rattle.ck_types.proofs.Tables.{get_or-there, is-node}
+use Rattle.ck_types.proofs.Tables.{is-node}
 use Rattle.ck_types.proofs.type_nodes.find.Goals as goal
 
 pub loop-at-preserved : goal.loop-at-preserved

@@ -1,4 +1,4 @@
-use Rattle.std.proofs.Common.{true, ◌≡◌, get_or, subst, sym, ◌∙◌, ap}
+use Rattle.std.proofs.Common.{true, ◌≡◌, subst, sym, ◌∙◌, ap}
 use Rattle.ck_types.specs.TypeTable.{IsNode, is_type, names_type, type_node}
 use Rattle.ck_types.specs.declared.types.Node.TheVariants as nodes
 use Rattle.ck_types.proofs.Tables.{is-node, type-named, type-there}

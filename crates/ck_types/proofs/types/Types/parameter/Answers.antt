@@ -1,4 +1,4 @@
-use Rattle.std.proofs.Common.{true, false, ◌≡◌, get_or, subst, sym, ◌∙◌, ap}
+use Rattle.std.proofs.Common.{true, false, ◌≡◌, subst, sym, ◌∙◌, ap}
 use Rattle.ck_types.specs.TypeTable.{IsNode, is_type, names_list, list_node}
 use Rattle.ck_types.specs.declared.types.Node.TheVariants as nodes
 use Rattle.ck_types.proofs.Tables.{is-node, list-named, list-there}
