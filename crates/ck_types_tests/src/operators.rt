@@ -160,7 +160,7 @@ const NO_RESULTS: [(
     NoValue,
 ); 18] = [
     (Add, Int, 2_147_483_647, Int, 1, SignedOverflow),
-    (Add, Long, -2_147_483_648, Char, 255, SignedOverflow),
+    (Add, Long, -2_147_483_648, SignedChar, -1, SignedOverflow),
     (Subtract, Int, -2_147_483_648, Int, 1, SignedOverflow),
     (
         Multiply,
