@@ -12,6 +12,7 @@ pub mod DigitValues
 pub mod Tables
 pub mod Entries
 pub mod OneNumber
+pub mod Arrays
 pub mod NodeLemmas
 -- Products that 128 bits hold
 pub mod Products

@@ -21,7 +21,7 @@ use Rattle.ck_types.proofs.NodeLemmas.{list_id, qualifiers, struct_id, type_id}
 use Rattle.ck_types.proofs.Tables.{is-node, list-named, list-there, type-named, type-there}
 
 -- the node of a number fits what is before it
-node-fits : (before ns : List Node) (i : ℕ) (d : Node) → i < length ns → fits_after before ns ≡ true
+pub node-fits : (before ns : List Node) (i : ℕ) (d : Node) → i < length ns → fits_after before ns ≡ true
     → fits (before ++ take i ns) (get_or ns i d) ≡ true
 node-fits before [] i d h fit = absurd (omega arith)
 node-fits before (n ∷ ns) zero d h fit =
@@ -33,7 +33,7 @@ node-fits before (n ∷ ns) (suc i) d h fit =
     (and_parts (fits before n) (fits_after (before ++ n ∷ []) ns) fit).1)
 
 -- what is named among the first nodes is named among all, and has a smaller number
-type-among : (ns : List Node) (i c : ℕ) → names_type (take i ns) c ≡ true → (names_type ns c ≡ true) × (c < i)
+pub type-among : (ns : List Node) (i c : ℕ) → names_type (take i ns) c ≡ true → (names_type ns c ≡ true) × (c < i)
 type-among ns zero c h = absurd (cc)
 type-among [] (suc i) c h = absurd (cc)
 type-among (n ∷ ns) (suc i) zero h = (h, omega arith)

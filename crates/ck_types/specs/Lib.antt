@@ -9,5 +9,6 @@ pub mod IntegerTypes
 pub mod Types
 -- From memory to plain values
 pub mod TypeTable
+pub mod Elements
 -- Private
 pub mod SameNodes

@@ -1,8 +1,9 @@
 //! The types of a project in one table. A type that is made of others names them by their numbers, which are smaller; equal
 //! types have one number.
-ghost use Rattle.std.specs.Prelude.{◌≡◌, ◌<◌, true, false, [], None, length, IfOk};
+ghost use Rattle.std.specs.Prelude.{◌≡◌, ◌<◌, true, false, [], None, length, take, IfOk};
 ghost use Rattle.ck_types.specs.IntegerTypes.{converted};
 ghost use Rattle.ck_types.specs.TypeTable as spec;
+ghost use Rattle.ck_types.specs.Elements.{HasElements, IsElementOf, array_parts};
 ghost use Rattle.ck_types.specs.TypeTable.{IfInteger};
 
 use crate::integer_types::IntegerType;
@@ -148,9 +149,41 @@ impl Types {
     pub fn node(&self, id: TypeId) -> CType
         requires { spec.names_type self.now id.0 ≡ true }
         ensures node { spec.IsNode self.now id.0 (spec.type_node result) }
+        ensures smaller { spec.fits_type (take id.0 self.now) result ≡ true }
         ensures table { spec.IsTable self.now }
     {
         type_in(node_at(&self.nodes, id.0))
+    }
+
+    /// The type of an array's elements through all its dimensions; another type is its own.
+    pub fn element_type(&self, id: TypeId) -> TypeId
+        requires { spec.names_type self.now id.0 ≡ true }
+        ensures named { spec.names_type self.now result.0 ≡ true }
+        ensures element { IsElementOf self.now id.0 result.0 }
+    {
+        let mut at = id;
+        while let Some((of, _count)) = array_of(self.node(at)) {
+            at = of;
+        }
+        at
+    }
+
+    /// How many elements an array has through all its dimensions, at most 2^64 - 1, where all sizes are known; another type
+    /// has 1.
+    pub fn element_count(&self, id: TypeId) -> Option<u64>
+        requires { spec.names_type self.now id.0 ≡ true }
+        ensures { HasElements self.now id.0 result }
+    {
+        let mut at = id;
+        let mut elements: u64 = 1;
+        while let Some((of, count)) = array_of(self.node(at)) {
+            match count {
+                Some(count) => elements = elements.saturating_mul(u64::from(count)),
+                None => return None,
+            }
+            at = of;
+        }
+        Some(elements)
     }
 
     /// The first parameter of a list and the others, or none where it is empty.
@@ -169,6 +202,16 @@ fn node_at(nodes: &[Node], number: u32) -> Node
     ensures { spec.IsNode nodes.now number result }
 {
     nodes[number as usize]
+}
+
+/// What an array is of, and how many elements it has where that is known.
+fn array_of(of: CType) -> Option<(TypeId, Option<u32>)>
+    ensures { result ≡ array_parts of }
+{
+    match of {
+        CType::Array { of, count, .. } => Some((of, count)),
+        _ => None,
+    }
 }
 
 /// The type of a node that is one.
