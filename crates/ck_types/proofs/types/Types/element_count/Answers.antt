@@ -1,4 +1,4 @@
-use Rattle.std.proofs.Common.{◌≡◌, ◌≤◌, ◌*◌, ◌^◌, ◌-◌, refl, sym, ◌∙◌, ap, arith}
+use Rattle.std.proofs.Common.{◌*◌, ◌^◌, ◌-◌, sym, ◌∙◌, ap, arith}
 use Rattle.std.specs.Prelude.{min}
 use Rattle.ck_types.specs.Elements.{element_count, times}
 use Rattle.ck_types.specs.TypeTable.{entries_of, type_at}

@@ -1,4 +1,4 @@
-use Rattle.std.proofs.Common.{◌≡◌, refl, sym, ◌∙◌, ap}
+use Rattle.std.proofs.Common.{refl, sym, ◌∙◌, ap}
 use Rattle.ck_types.specs.Elements.{element_type}
 use Rattle.ck_types.specs.TypeTable.{entries_of}
 use Rattle.ck_types.proofs.Arrays.{array-fits, element-inner, element-own, type-is}

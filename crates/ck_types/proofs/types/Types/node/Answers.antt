@@ -1,4 +1,4 @@
-use Rattle.std.proofs.Common.{true, [], take, get_or, ◌≡◌, subst, sym, ◌∙◌, ap}
+use Rattle.std.proofs.Common.{true, [], take, ◌≡◌, subst, sym, ◌∙◌, ap}
 use Rattle.ck_types.specs.TypeTable.{IsNode, IsTable, fits, is_type, names_type, type_node}
 use Rattle.ck_types.specs.declared.types.Node.TheVariants as nodes
 use Rattle.ck_types.proofs.OneNumber.{node-fits}
