@@ -5,6 +5,8 @@ pub mod Conversions
 pub mod InRange
 -- compatible_is_reflexive, compatible_is_symmetric
 pub mod Compatible
+-- constants_have_types
+pub mod TypedConstants
 -- Constants by their bytes
 pub mod ConstantLemmas
 pub mod DigitValues

@@ -1,10 +1,11 @@
 -- The type of an integer constant, by its base, suffix and value (C99 6.4.4.1); and the value of a constant with its type,
 -- by its bytes. A character constant is an `int` (6.4.4.4).
-use Rattle.std.specs.Prelude.{ℕ, Bool, true, false, ◌&&◌, ◌==◌, nat_lt, List, [], ◌∷◌, length, count_by}
+use Rattle.std.specs.Option.{is_some}
+use Rattle.std.specs.Prelude.{◌≡◌, ℕ, Bool, true, false, ◌&&◌, ◌==◌, nat_lt, List, [], ◌∷◌, length, count_by}
 use Rattle.std.specs.Prelude.{Option, Some, None, if◌then◌else◌, ℤ, pos}
 use Rattle.ck_base.specs.CharacterConstants.{between_quotes, character_value}
 use Rattle.ck_base.specs.Characters.{◌∈◌}
-use Rattle.ck_base.specs.IntegerConstants.{base_of, digits_of, suffix_of, is_suffix, is_unsigned_suffix, value_of}
+use Rattle.ck_base.specs.IntegerConstants.{base_of, digits_of, is_integer_constant, suffix_of, is_suffix, is_unsigned_suffix, value_of}
 use Rattle.ck_types.specs.IntegerTypes.{represents}
 use Rattle.ck_types.specs.declared.integer_types.IntegerType.{IntegerType}
 use Rattle.ck_types.specs.declared.operators.IntegerValue.{IntegerValue}
@@ -66,3 +67,7 @@ character_constant text = int_value (character_value (between_quotes text)) wher
   int_value : Option ℕ → Option IntegerValue
   int_value None = None
   int_value (Some value) = Some (record { of = Int; value = pos value })
+
+-- a token that is an integer constant has a type and a value, and nothing else has
+abbrev pub ConstantsHaveTypes : Type 0
+ConstantsHaveTypes = (text : List ℕ) → is_integer_constant text ≡ is_some (integer_constant text)

@@ -1,5 +1,6 @@
 //! Laws about the definitions, each the contract of a function that does nothing.
 ghost use Rattle.ck_types.specs.Compatibility.{IsReflexive, IsSymmetric};
+ghost use Rattle.ck_types.specs.ConstantTypes.{ConstantsHaveTypes};
 ghost use Rattle.ck_types.specs.Ranges.{BinaryIsInRange, ConvertsIntoRange, ConvertsToItself, UnaryIsInRange};
 ghost use Rattle.ck_types.specs.TableLaws.{EqualTypesHaveOneNumber, NumbersStandForTypes, TablesKeepNumbers};
 
@@ -17,6 +18,11 @@ pub fn converts_to_itself()
 pub fn operators_stay_in_range()
     ensures binary { BinaryIsInRange }
     ensures unary { UnaryIsInRange }
+{}
+
+/// What is an integer constant within 64 bits by its bytes has a type and a value, and nothing else has.
+pub fn constants_have_types()
+    ensures { ConstantsHaveTypes }
 {}
 
 /// Each type is compatible with itself.

@@ -21,9 +21,9 @@ mod types;
 pub use constants::{Suffix, constant_type};
 pub use integer_types::IntegerType;
 pub use laws::{
-    compatible_is_reflexive, compatible_is_symmetric, converts_into_range, converts_to_itself,
-    equal_types_have_one_number, numbers_stand_for_types, operators_stay_in_range,
-    tables_keep_numbers,
+    compatible_is_reflexive, compatible_is_symmetric, constants_have_types, converts_into_range,
+    converts_to_itself, equal_types_have_one_number, numbers_stand_for_types,
+    operators_stay_in_range, tables_keep_numbers,
 };
 pub use literals::{character_constant, integer_constant};
 pub use operators::{BinaryOperator, IntegerValue, NoValue, UnaryOperator};
