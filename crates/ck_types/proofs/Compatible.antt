@@ -9,13 +9,13 @@ use Rattle.ck_types.specs.Types.{same_integer, same_qualifiers, same_struct, sam
 use Rattle.ck_types.specs.IntegerTypes.{rank, is_signed}
 use Rattle.ck_types.specs.declared.integer_types.IntegerType.{IntegerType}
 
-and-true : {a b : Bool} → a ≡ true → b ≡ true → (a && b) ≡ true
+pub and-true : {a b : Bool} → a ≡ true → b ≡ true → (a && b) ≡ true
 and-true {a} {b} p q = rw (p, q) refl
 
 and-same : {a b c d : Bool} → a ≡ c → b ≡ d → (a && b) ≡ (c && d)
 and-same p q = rw (p, q) refl
 
-same_truth-self : (b : Bool) → same_truth b b ≡ true
+pub same_truth-self : (b : Bool) → same_truth b b ≡ true
 same_truth-self true = refl
 same_truth-self false = refl
 
@@ -25,7 +25,7 @@ same_truth-swap true false = refl
 same_truth-swap false true = refl
 same_truth-swap false false = refl
 
-equal-self : (n : ℕ) → (n == n) ≡ true
+pub equal-self : (n : ℕ) → (n == n) ≡ true
 equal-self n = grind arith
 
 equal-swap : (n m : ℕ) → (n == m) ≡ (m == n)
@@ -47,7 +47,7 @@ same_qualifiers-self q = and-true (same_truth-self q.constant) (same_truth-self 
 same_qualifiers-swap : (p q : Qualifiers) → same_qualifiers p q ≡ same_qualifiers q p
 same_qualifiers-swap p q = and-same (same_truth-swap p.constant q.constant) (same_truth-swap p.volatile q.volatile)
 
-same_integer-self : (t : IntegerType) → same_integer t t ≡ true
+pub same_integer-self : (t : IntegerType) → same_integer t t ≡ true
 same_integer-self t = and-true (equal-self (rank t)) (same_truth-self (is_signed t))
 
 same_integer-swap : (t u : IntegerType) → same_integer t u ≡ same_integer u t

@@ -9,14 +9,22 @@
 //! It must not know: names, scopes, trees, and where a value is kept.
 #![tactic(auto)]
 
+mod characters;
 mod constants;
 mod integer_types;
 mod laws;
+mod literals;
 mod operators;
+mod type_nodes;
+mod types;
 
 pub use constants::{Suffix, constant_type};
 pub use integer_types::IntegerType;
 pub use laws::{
-    compatible_is_reflexive, compatible_is_symmetric, converts_into_range, converts_to_itself,
+    compatible_is_reflexive, compatible_is_symmetric, constants_have_types, converts_into_range,
+    converts_to_itself, equal_types_have_one_number, numbers_stand_for_types,
+    operators_stay_in_range, tables_keep_numbers,
 };
-pub use operators::{BinaryOperator, IntegerValue, UnaryOperator, Undefined};
+pub use literals::{character_constant, integer_constant};
+pub use operators::{BinaryOperator, IntegerValue, NoValue, UnaryOperator};
+pub use types::{CType, ParametersId, Qualifiers, StructId, TypeId, Types, convert};

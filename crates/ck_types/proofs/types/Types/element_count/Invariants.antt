@@ -1,0 +1,19 @@
+use Rattle.std.proofs.Common.{◌≡◌, ◌≤◌, ◌^◌, ◌-◌, ℕ, true}
+use Rattle.std.specs.Option.{option_map}
+use Rattle.ck_types.specs.Elements.{element_count, saturated}
+use Rattle.ck_types.specs.TypeTable.{entries_of, names_type, type_at}
+use Rattle.ck_types.specs.Types.{StructIdentity}
+use Rattle.ck_types.proofs.Arrays.{Counted}
+use Rattle.ck_types.proofs.types.Types.element_count.Given as goal
+
+abbrev pub invariant-loop-of : goal.invariant-loop-of
+invariant-loop-of l = record {
+  named : names_type l.self l.at.0 ≡ true;
+  same : (identity : ℕ → StructIdentity) → option_map saturated
+      (element_count (type_at (entries_of identity l.self) l.fn.id.0))
+      ≡ Counted l.elements (element_count (type_at (entries_of identity l.self) l.at.0));
+  small : l.elements ≤ 2 ^ 64 - 1;
+}
+
+abbrev pub decreases-loop-of : goal.decreases-loop-of
+decreases-loop-of l = l.at.0
