@@ -35,7 +35,8 @@ pub raised-here : (flow : Flow) (places : List Place) (alarm : PointAlarm) (n li
 raised-here flow places alarm n link place at there raised =
     inl (record { place = place; at = at; there = there; raised = raised })
 
-pub raised-more : (flow : Flow) (places : List Place) (last : List ℕ) (alarm : PointAlarm) (best n : ℕ) (place : Place) →
+pub raised-more : (flow : Flow) (places : List Place) (last : List ℕ) (alarm : PointAlarm) (best n : ℕ)
+    (place : Place) →
     AreLinked places last → IsAt places n place → place.point.0 ≡ alarm.point →
     (alarm_in (kind_at flow place.point.0) place.to ≡ Some alarm.kind → ⊥) →
     IsRaisedOrBelow flow places alarm best (n + 1) → IsRaisedOrBelow flow places alarm best place.same
@@ -45,7 +46,8 @@ raised-more flow places last alarm best n place linked at there other (inr (m, r
       inr (m, raised, linked.links n m place raised.place at raised.at (raised.there ∙ sym there) earlier)
   | inr same ↦
       let number : n ≡ m = omega (arith, below, same) in
-      let here : place ≡ raised.place = one places m place raised.place (subst (λ (k : ℕ). IsAt places k place) number at) raised.at in
+      let here : place ≡ raised.place = one places m place raised.place
+      (subst (λ (k : ℕ). IsAt places k place) number at) raised.at in
       absurd (other (ap (λ (p : Place). alarm_in (kind_at flow p.point.0) p.to) here ∙ raised.raised))
 ]
 
@@ -60,7 +62,13 @@ pub raised-from_reached : (flow : Flow) (roots : List Root) (places : List Place
     (n : ℕ) × IsRaisedAt flow places alarm n
 raised-from_reached flow roots places alarm all reaches =
     let c : Configuration = reaches.configuration in
-    let has = all c.top.point c.top.entered c.state (record { configuration = c; reached = reaches.reached; top = refl; state = refl }) in
+    let has = all c.top.point c.top.entered c.state (record {
+      configuration = c;
+      reached = reaches.reached;
+      top =
+          refl;
+      state = refl;
+    }) in
     let place : Place = has.place in (
       has.number,
       record {

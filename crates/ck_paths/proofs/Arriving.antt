@@ -28,7 +28,8 @@ pub path-to : (flow : Flow) (sound : IsSound flow) (roots : List Root) (places :
     (list : List PlainSegment) → list ≡ finished ++ unfinished →
     IsPathToAlarm flow roots (record { root = k; list = list }) alarm
 unfolding in-form
-path-to flow sound roots places last ready all n exits are finished to_exits alarm raised unfinished entry k start at root are_open list parts =
+path-to flow sound roots places last ready all n exits are finished to_exits alarm raised unfinished entry k start at
+    root are_open list parts =
     let end : Place = raised.place in
     let starts : StartsAt flow roots k start = holds flow roots places all entry start (AtRoot k) at root in
     let form =

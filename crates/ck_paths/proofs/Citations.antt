@@ -21,9 +21,11 @@ reasons places n a b r s x y is_r is_s = sym is_r ∙ (ap (λ (p : Place). p.rea
 pub cites-edge : (places : List Place) (on : Bool) (n b k x : ℕ) (place : Place) → IsAt places n place →
     place.reason ≡ ByEdge b k → Cites places on n x → Cites places on b x
 cites-edge places on n b k x place at is (over m c e p p_at p_is) =
-    let no : OverCall c e ≡ ByEdge b k = reasons places n p place (OverCall c e) (ByEdge b k) p_at at p_is is in absurd (cc)
+    let no : OverCall c e ≡ ByEdge b k = reasons places n p place (OverCall c e) (ByEdge b k) p_at at p_is
+    is in absurd (cc)
 cites-edge places on n b k x place at is (before m c e y p p_at p_is h) =
-    let no : OverCall c e ≡ ByEdge b k = reasons places n p place (OverCall c e) (ByEdge b k) p_at at p_is is in absurd (cc)
+    let no : OverCall c e ≡ ByEdge b k = reasons places n p place (OverCall c e) (ByEdge b k) p_at at p_is
+    is in absurd (cc)
 cites-edge places on n b k x place at is (by_edge m a l y p p_at p_is h) =
     let same : ByEdge a l ≡ ByEdge b k = reasons places n p place (ByEdge a l) (ByEdge b k) p_at at p_is is in
     let number : a ≡ b = cc in
@@ -42,16 +44,20 @@ cites-over places on n c e x place at is (before m d f y p p_at p_is h) =
     let number : d ≡ c = cc in
     inr (subst (λ (q : ℕ). Cites places on q x) number h)
 cites-over places on n c e x place at is (by_edge m a l y p p_at p_is h) =
-    let no : ByEdge a l ≡ OverCall c e = reasons places n p place (ByEdge a l) (OverCall c e) p_at at p_is is in absurd (cc)
+    let no : ByEdge a l ≡ OverCall c e = reasons places n p place (ByEdge a l) (OverCall c e) p_at at p_is
+    is in absurd (cc)
 cites-over places on n c e x place at is (in_caller m d y p onward p_at p_is h) =
-    let no : IntoCall d ≡ OverCall c e = reasons places n p place (IntoCall d) (OverCall c e) p_at at p_is is in absurd (cc)
+    let no : IntoCall d ≡ OverCall c e = reasons places n p place (IntoCall d) (OverCall c e) p_at at p_is
+    is in absurd (cc)
 
 pub cites-caller : (places : List Place) (on : Bool) (n c x : ℕ) (place : Place) → IsAt places n place →
     place.reason ≡ IntoCall c → Cites places on n x → (on ≡ true) × Cites places on c x
 cites-caller places on n c x place at is (over m d y p p_at p_is) =
-    let no : OverCall d x ≡ IntoCall c = reasons places n p place (OverCall d x) (IntoCall c) p_at at p_is is in absurd (cc)
+    let no : OverCall d x ≡ IntoCall c = reasons places n p place (OverCall d x) (IntoCall c) p_at at p_is
+    is in absurd (cc)
 cites-caller places on n c x place at is (before m d f y p p_at p_is h) =
-    let no : OverCall d f ≡ IntoCall c = reasons places n p place (OverCall d f) (IntoCall c) p_at at p_is is in absurd (cc)
+    let no : OverCall d f ≡ IntoCall c = reasons places n p place (OverCall d f) (IntoCall c) p_at at p_is
+    is in absurd (cc)
 cites-caller places on n c x place at is (by_edge m a l y p p_at p_is h) =
     let no : ByEdge a l ≡ IntoCall c = reasons places n p place (ByEdge a l) (IntoCall c) p_at at p_is is in absurd (cc)
 cites-caller places on n c x place at is (in_caller m d y p onward p_at p_is h) =

@@ -24,7 +24,8 @@ widen places n x (in_caller m c y place onward at is h) = absurd (cc)
 pub caller-there : (flow : Flow) (roots : List Root) (places : List Place) (e c : ℕ) → AreJustified flow roots places →
     IsEnteredFrom places e c → (c < e) × (c < length places)
 caller-there flow roots places e c all from =
-    let enters : Enters flow places e c from.place = holds flow roots places all e from.place (IntoCall c) from.at from.cause in
+    let enters : Enters flow places e c from.place = holds flow roots places all e from.place (IntoCall c) from.at
+    from.cause in
     (enters.earlier, slice_get_within places c enters.caller enters.at)
 
 pub cited-in_caller : (places : List Place) (e c x : ℕ) → IsEnteredFrom places e c → Cites places true c x →

@@ -36,7 +36,11 @@ pub cited-all : (places : List Place) (on : Bool) (n at : ℕ) (old new : BTreeS
     WalkedBack places on n at old new → ((x : ℕ) → Cites places on at x → ⊥) → AddsCited places on n old new
 cited-all places on n at old new walked none = record {
   kept = walked.kept;
-  added = λ x h. elim (walked.down x h) as (λ _. IsIn new x) [ inl there ↦ there | inr further ↦ absurd (none x further) ];
+  added = λ x h. elim (walked.down x h) as (λ _. IsIn new x) [
+    | inl there ↦ there
+    | inr further ↦
+        absurd (none x further)
+  ];
   only = walked.only;
 }
 
@@ -49,7 +53,8 @@ listed-cases y xs x (suc s, is) = inr (s, is)
 
 ascending-cons : (y : ℕ) (xs : List ℕ) → ((e : ℕ) → IsListed xs e → y < e) → AreAscending xs → AreAscending (y ∷ xs)
 ascending-cons y xs below up zero zero less within = absurd (omega (arith, less))
-ascending-cons y xs below up zero (suc j) less within = below (get_or xs j 0) (j, slice_get-get_or xs j 0 (omega (arith, within)))
+ascending-cons y xs below up zero (suc j) less within = below (get_or xs j 0)
+    (j, slice_get-get_or xs j 0 (omega (arith, within)))
 ascending-cons y xs below up (suc i) zero less within = absurd (omega (arith, less))
 ascending-cons y xs below up (suc i) (suc j) less within = up i j (omega (arith, less)) (omega (arith, within))
 
@@ -116,7 +121,14 @@ listed-before xs s e x up at there less =
     elim (cases_lt there.0 s) [
       | inl before ↦ (there.0, take-get xs s there.0 x before there.1)
       | inr after ↦ elim (cases_lt s there.0) [
-        | inl later ↦ absurd (omega (arith, less, e_is, x_is, up s there.0 later (slice_get_within xs there.0 x there.1)))
+        | inl later ↦ absurd (omega (
+          arith,
+          less,
+          e_is,
+          x_is,
+          up s there.0 later
+              (slice_get_within xs there.0 x there.1),
+        ))
         | inr same ↦
             let number : there.0 ≡ s = omega (arith, after, same) in
             let one : x ≡ e = same_Some x e (sym there.1 ∙ (ap (slice_get xs) number ∙ at)) in
@@ -135,7 +147,8 @@ exits-whole flow roots places n taken pending all p none few = record {
     | inr through ↦ cited-exit flow roots places all false through.0 x through.2
   ];
   closed = λ s e x at h.
-      listed-before taken s e x p.ascending at (done x (p.closed e x (s, at) h)) (cited-below flow roots places all false e x h);
+      listed-before taken s e x p.ascending at (done x (p.closed e x (s, at) h))
+      (cited-below flow roots places all false e x h);
   cites = λ x h. done x (p.cites x h);
   cited = λ x h. p.cited x (inl h);
 } where

@@ -30,7 +30,8 @@ leads-act flow place op next sound is acts k edge has =
     let p : ℕ = place.point.0 in
     let kind : kind_at flow p ≡ Act op is.0 = is.1 in
     let one : length (point_at flow p).edges ≡ 1 =
-    subst (λ x. FitsKind x (length (point_at flow p).edges)) kind (sound.points p (there-from_edge flow p k edge has)).fits in
+    subst (λ x. FitsKind x (length (point_at flow p).edges)) kind
+    (sound.points p (there-from_edge flow p k edge has)).fits in
     let zero : k ≡ 0 = omega (arith, one, slice_get_within (point_at flow p).edges k edge has) in
     (subst (λ x. TakesEdge x k) (sym kind) zero, subst (λ x. StateLeads x place.to next) (sym kind) acts)
 

@@ -107,8 +107,10 @@ leads-call flow roots places exits a c x segment target place exit all at is exi
     let same : r.exit ≡ exit = one places x r.exit exit r.exit_at exit_at in
     let does : does_at flow exit ≡ record { function = target; entered = r.caller.to; left = place.to } =
     ap (λ (f : FnId). record { function = f; entered = exit.from; left = exit.to }) (sym named) ∙
-    (ap (λ (s : State). record { function = target; entered = s; left = exit.to }) (sym (r.goes_in ∙ ap (λ (p : Place). p.from) same)) ∙
-    ap (λ (s : State). record { function = target; entered = r.caller.to; left = s }) (sym (ap (λ (p : Place). p.to) same) ∙ r.comes_out)) in
+    (ap (λ (s : State). record { function = target; entered = s; left = exit.to })
+    (sym (r.goes_in ∙ ap (λ (p : Place). p.from) same)) ∙
+    ap (λ (s : State). record { function = target; entered = r.caller.to; left = s })
+    (sym (ap (λ (p : Place). p.to) same) ∙ r.comes_out)) in
     let enters : MayEnter flow r.caller.point.0 target.0 =
     subst (λ (f : FnId). MayEnter flow r.caller.point.0 f.0) (sym named)
     (subst (λ (p : Place). MayEnter flow r.caller.point.0 (own_function flow p).0) same r.enters) in

@@ -43,7 +43,10 @@ one-place xs i j x up at_i at_j =
       ]
     ]
 
-module _ (flow : Flow) (sound : IsSound flow) (roots : List Root) (places : List Place) (last : List ℕ) (ready : IsReady flow places last) (all : AreJustified flow roots places) (n : ℕ) (exits : List ℕ) (are : AreExitsFor flow places n exits) (finished : List PlainSegment) (to_exits : AreToExits flow places exits finished) where
+module _ (flow : Flow) (sound : IsSound flow) (roots : List Root) (places : List Place) (last : List ℕ)
+    (ready : IsReady flow places last) (all : AreJustified flow roots places) (n : ℕ) (exits : List ℕ)
+    (are : AreExitsFor flow places n exits) (finished : List PlainSegment)
+    (to_exits : AreToExits flow places exits finished) where
   -- the exit, the segment and what it does, of a number
   record Finished (s : ℕ) (segment : PlainSegment) : Type 0 where
     x : ℕ
@@ -93,10 +96,16 @@ module _ (flow : Flow) (sound : IsSound flow) (roots : List Root) (places : List
   matched = record {
     each = λ s does is.
         let within : s < length exits =
-        omega (arith, slice_get_within (does_of flow places exits) s does is, length-map exits (λ x. does_at flow (slice_index_or places x no_place))) in
+        omega (
+          arith,
+          slice_get_within (does_of flow places exits) s does is,
+          length-map exits
+              (λ x. does_at flow (slice_index_or places x no_place)),
+        ) in
         let each = to_exits.each s (get_or exits s 0) (slice_get-get_or exits s 0 within) in
         let f = finished-at s (get_or exits s 0) each.0 (slice_get-get_or exits s 0 within) each.1 in
-        let same : does_at flow f.place ≡ does = same_Some (does_at flow f.place) does (sym (does-is s each.0 f) ∙ is) in
+        let same : does_at flow f.place ≡ does = same_Some (does_at flow f.place) does
+        (sym (does-is s each.0 f) ∙ is) in
         (each.0, each.1, f.runs.own ∙ ap (λ (d : Through). d.function) same);
   }
 
@@ -106,7 +115,8 @@ module _ (flow : Flow) (sound : IsSound flow) (roots : List Root) (places : List
   matched-before : (s : ℕ) → AreMatched (does_of flow places (take s exits)) (take s finished)
   matched-before s = record {
     each = λ k does is.
-        let at = get-take (does_of flow places exits) s k does (ap (λ (ts : List Through). slice_get ts k) (sym (does-take s)) ∙ is) in
+        let at = get-take (does_of flow places exits) s k does
+        (ap (λ (ts : List Through). slice_get ts k) (sym (does-take s)) ∙ is) in
         let m = matched.each k does at.1 in
         (m.0, take-get finished s k m.0 at.0 m.1, m.2);
   }
@@ -144,9 +154,12 @@ module _ (flow : Flow) (sound : IsSound flow) (roots : List Root) (places : List
       (record {
         function = f.runs.own;
         steps =
-            subst (λ (ts : List Through). StepsRun flow ts first f.place.from segment.steps (exit_of flow segment.function.0) f.place.to) (does-take s)
-            (subst (λ (q : ℕ). StepsRun flow (does_of flow places (take s exits)) first f.place.from segment.steps q f.place.to) exit
-            (subst (λ (i : State). StepsRun flow (does_of flow places (take s exits)) first i segment.steps f.place.point.0 f.place.to) f.runs.entered f.runs.runs));
+            subst (λ (ts : List Through). StepsRun flow ts first f.place.from segment.steps
+            (exit_of flow segment.function.0) f.place.to) (does-take s)
+            (subst (λ (q : ℕ). StepsRun flow (does_of flow places (take s exits)) first f.place.from segment.steps q
+            f.place.to) exit
+            (subst (λ (i : State). StepsRun flow (does_of flow places (take s exits)) first i segment.steps
+            f.place.point.0 f.place.to) f.runs.entered f.runs.runs));
       })
 
   -- a finished segment has the calls that its exit's way back cites
@@ -164,7 +177,8 @@ module _ (flow : Flow) (sound : IsSound flow) (roots : List Root) (places : List
         | inr further ↦ elim entered.cause [
           | inl root ↦ absurd (cites-root places false each.2 root.0 x entered.place entered.at root.1 further)
           | inr call ↦
-              let no : false ≡ true = (cites-caller places false each.2 call.0 x entered.place entered.at call.1 further).0 in
+              let no : false ≡ true = (cites-caller places false each.2 call.0 x entered.place entered.at call.1
+              further).0 in
               absurd (cc)
         ]
       ]
@@ -182,7 +196,8 @@ module _ (flow : Flow) (sound : IsSound flow) (roots : List Root) (places : List
     -- an unfinished segment has each call that the way back cites, or the way goes on
     open-cites : (segments : List PlainSegment) (entry x : ℕ) → AreOpen flow places exits entry segments n →
         Cites places true n x →
-        ((segment : PlainSegment) × Contains segments segment × HasCallTo exits segment.steps x) ⊎ Cites places true entry x
+        ((segment : PlainSegment) × Contains segments segment × HasCallTo exits segment.steps x) ⊎ Cites places true
+        entry x
     open-cites [] entry x are_open cites = absurd are_open
     open-cites (segment ∷ []) entry x are_open cites = elim (are_open.traced.down true x cites) [
       | inl call ↦ inl (segment, (0, omega arith, refl), call)
@@ -219,7 +234,8 @@ module _ (flow : Flow) (sound : IsSound flow) (roots : List Root) (places : List
     runs-on (segment ∷ (next ∷ rest)) entry start at (e, c, from, into, going_on) =
         let callee = from.place in
         let own : next.function ≡ own_function flow callee = function-of (next ∷ rest) e callee from.at going_on in
-        let runs = runs-into flow sound places last ready roots all exits entry c e next.function segment into from start callee at from.at own in
+        let runs = runs-into flow sound places last ready roots all exits entry c e next.function segment into from
+        start callee at from.at own in
         (callee.from, runs.runs, runs-on (next ∷ rest) e callee from.at going_on)
 
     -- the unfinished segments are in form
@@ -237,13 +253,15 @@ module _ (flow : Flow) (sound : IsSound flow) (roots : List Root) (places : List
             steps = lead-from_runs flow through segment.steps first start.from end.point.0 end.to runs.runs;
           };
           stays =
-              stays-from_runs flow through finished matched segment.steps first start.from end.point.0 end.to runs.inside
+              stays-from_runs flow through finished matched segment.steps first start.from end.point.0 end.to
+              runs.inside
               runs.runs;
         }
     going-on (segment ∷ (next ∷ rest)) entry start at (e, c, from, into, going_on) =
         let callee = from.place in
         let own : next.function ≡ own_function flow callee = function-of (next ∷ rest) e callee from.at going_on in
-        let runs = runs-into flow sound places last ready roots all exits entry c e next.function segment into from start callee at from.at own in
+        let runs = runs-into flow sound places last ready roots all exits entry c e next.function segment into from
+        start callee at from.at own in
         let through : List Through = does_of flow places exits in
         let first : ℕ = first_of flow segment.function.0 in (
           record {
@@ -255,7 +273,8 @@ module _ (flow : Flow) (sound : IsSound flow) (roots : List Root) (places : List
             };
             before = runs.before;
             stays =
-                stays-from_runs flow through finished matched runs.before first start.from runs.caller.point.0 runs.caller.to
+                stays-from_runs flow through finished matched runs.before first start.from runs.caller.point.0
+                runs.caller.to
                 runs.inside runs.inner;
             ends = runs.ends;
           },
@@ -272,7 +291,8 @@ module _ (flow : Flow) (sound : IsSound flow) (roots : List Root) (places : List
         let listed : slice_get exits s ≡ Some x = slice_get-get_or exits s 0 within in
         elim (are.cited x (s, listed)) [
           | inl direct ↦ elim (open-cites unfinished entry x are_open direct) [
-            | inl call ↦ by-call call.0 (Contains-append_right finished unfinished call.0 call.1) exits (λ r y is. is) call.2 listed
+            | inl call ↦ by-call call.0 (Contains-append_right finished unfinished call.0 call.1) exits (λ r y is. is)
+                call.2 listed
             | inr further ↦ absurd (cites-root places true entry k x start at root further)
           ]
           | inr through ↦
@@ -288,7 +308,8 @@ module _ (flow : Flow) (sound : IsSound flow) (roots : List Root) (places : List
           by-call segment there some whole call listed =
               let target : FnId = call.2.0 in
               let m : ℕ = call.2.1 in
-              let same : m ≡ s = one-place exits m s (get_or exits s 0) are.ascending (whole m (get_or exits s 0) call.2.3) listed in
+              let same : m ≡ s = one-place exits m s (get_or exits s 0) are.ascending
+              (whole m (get_or exits s 0) call.2.3) listed in
               record {
                 segment = segment;
                 there = there;
@@ -308,11 +329,13 @@ module _ (flow : Flow) (sound : IsSound flow) (roots : List Root) (places : List
       each_finished = is-finished;
       going_on = going-on unfinished entry start at are_open;
       each_cited = λ s below.
-          subst (λ (xs : List PlainSegment). IsCited xs s) (sym parts) (cited-finished unfinished entry k start at root are_open s below);
+          subst (λ (xs : List PlainSegment). IsCited xs s) (sym parts)
+          (cited-finished unfinished entry k start at root are_open s below);
     }
 
     pub fits : (unfinished : List PlainSegment) (entry k : ℕ) (start : Place) → IsAt places entry start →
-        start.reason ≡ AtRoot k → (starts : StartsAt flow roots k start) → AreOpen flow places exits entry unfinished n →
+        start.reason ≡ AtRoot k → (starts : StartsAt flow roots k start) →
+        AreOpen flow places exits entry unfinished n →
         Fit flow starts.root finished unfinished end.point.0 end.to
     fits unfinished entry k start at root starts are_open = record {
       through = does_of flow places exits;

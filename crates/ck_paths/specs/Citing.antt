@@ -87,8 +87,8 @@ pub record WalkedBack (places : List Place) (on : Bool) (n at : ℕ) (old new : 
   pub down : (x : ℕ) → Cites places on n x → IsIn new x ⊎ Cites places on at x
   pub only : (x : ℕ) → IsIn new x → IsIn old x ⊎ Cites places on n x
 
--- The exits that were taken out of a set, the greatest first, are `taken` the other way round. All that is cited is among
--- them or in the set, and what is in the set is below them.
+-- The exits that were taken out of a set, the greatest first, are `taken` the other way round. All that is cited is
+-- among them or in the set, and what is in the set is below them.
 pub record ArePending (flow : Flow) (places : List Place) (n : ℕ) (taken : List ℕ) (pending : BTreeSet ℕ) : Type 0 where
   pub ascending : AreAscending taken
   pub below : (x e : ℕ) → IsIn pending x → IsListed taken e → x < e

@@ -74,4 +74,5 @@ Holds flow roots places n place (OverCall c x) = Returns flow places n c x place
 
 -- the reason of each place holds
 abbrev pub AreJustified : Flow → List Root → List Place → Type 0
-AreJustified flow roots places = (n : ℕ) (place : Place) → IsAt places n place → Holds flow roots places n place place.reason
+AreJustified flow roots places = (n : ℕ) (place : Place) → IsAt places n place →
+    Holds flow roots places n place place.reason

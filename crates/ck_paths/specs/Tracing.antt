@@ -78,13 +78,15 @@ pub record IsTraced (flow : Flow) (places : List Place) (exits : List ℕ) (a n 
   pub down : (on : Bool) (x : ℕ) → Cites places on n x → HasCallTo exits steps x ⊎ Cites places on a x
 
 -- a segment leads to a place from where its function is entered
-pub record IsSegmentTo (flow : Flow) (places : List Place) (exits : List ℕ) (entry n : ℕ) (segment : PlainSegment) : Type 0 where
+pub record IsSegmentTo (flow : Flow) (places : List Place) (exits : List ℕ) (entry n : ℕ) (segment : PlainSegment) :
+    Type 0 where
   pub entered : IsEntryAt flow places entry
   pub traced : IsTraced flow places exits entry n segment.steps
   pub function : segment.function ≡ own_function flow entered.place
 
 -- a segment leads to a call at a place, and goes into this function
-pub record IsSegmentInto (flow : Flow) (places : List Place) (exits : List ℕ) (entry c : ℕ) (target : FnId) (segment : PlainSegment) : Type 0 where
+pub record IsSegmentInto (flow : Flow) (places : List Place) (exits : List ℕ) (entry c : ℕ) (target : FnId)
+    (segment : PlainSegment) : Type 0 where
   pub entered : IsEntryAt flow places entry
   pub before : List Step
   pub traced : IsTraced flow places exits entry c before

@@ -44,8 +44,10 @@ fn put(
 ) -> Result<(), OutOfMemory>
     requires ready { IsReady graph.now found.old.places.items found.old.last.items }
     requires point { point.0 < point_count graph.now }
-    requires holds { (same : ℕ) → let place : PlaceOf = record { point = point; from = from; to = to; reason = reason; same = same } in
-        (roots : List RootOf) → Holds graph.now roots found.old.places.items (length found.old.places.items) place reason }
+    requires holds { (same : ℕ) (roots : List RootOf) →
+        let place : PlaceOf =
+        record { point = point; from = from; to = to; reason = reason; same = same } in
+        Holds graph.now roots found.old.places.items (length found.old.places.items) place reason }
     ensures grows { OnOk result (Grows graph.now found.old.places.items found.new.places.items found.new.last.items) }
     ensures there { OnOk result (HasPlace found.new.places.items point.0 from to) }
 {
@@ -157,7 +159,9 @@ fn over_exits(
     requires exit { exit_of graph.now target.0 < point_count graph.now }
     requires function { target.0 < function_count graph.now }
     ensures grows { OnOk result (Grows graph.now found.old.places.items found.new.places.items found.new.last.items) }
-    ensures exits { OnOk result (HasExits graph.now found.old.places.items found.new.places.items calls (exit_of graph.now target.0) 0) }
+    ensures exits { OnOk
+        result
+        (HasExits graph.now found.old.places.items found.new.places.items calls (exit_of graph.now target.0) 0) }
 {
     let exit = graph.exit(target);
     let mut link = found.last_link(exit);
@@ -203,7 +207,10 @@ fn pass_call(graph: &Graph, found: &mut Found, number: u32, calls: Place) -> Res
     requires at { IsAt found.old.places.items number calls }
     requires call { IsCall graph.now calls.point.0 }
     ensures grows { OnOk result (Grows graph.now found.old.places.items found.new.places.items found.new.last.items) }
-    ensures passed { OnOk result ((target : ℕ) → MayEnter graph.now calls.point.0 target → HasCalled graph.now found.old.places.items found.new.places.items calls target) }
+    ensures passed { OnOk
+        result
+        ((target : ℕ) → MayEnter graph.now calls.point.0 target →
+        HasCalled graph.now found.old.places.items found.new.places.items calls target) }
 {
     let targets = graph.targets(calls.point);
     for target in targets {
@@ -248,7 +255,10 @@ fn pass_exit(
     requires exit { ends.point.0 ≡ exit_of graph.now target.0 }
     requires callers { AreCallersOf graph.now target.0 callers.now }
     ensures grows { OnOk result (Grows graph.now found.old.places.items found.new.places.items found.new.last.items) }
-    ensures back { OnOk result ((caller : ℕ) → MayEnter graph.now caller target.0 → HasCallers graph.now found.old.places.items found.new.places.items ends caller 0) }
+    ensures back { OnOk
+        result
+        ((caller : ℕ) → MayEnter graph.now caller target.0 →
+        HasCallers graph.now found.old.places.items found.new.places.items ends caller 0) }
 {
     for caller in callers {
         back_to(graph, found, number, ends, *caller, target)?;
@@ -269,7 +279,10 @@ fn pass_act(
     requires at { IsAt found.old.places.items number place }
     requires act { IsActOf graph.now place.point.0 op }
     ensures grows { OnOk result (Grows graph.now found.old.places.items found.new.places.items found.new.last.items) }
-    ensures act { OnOk result ((next : StateOf) → Leads graph.now place.point.0 place.to next → HasNext graph.now found.new.places.items place next) }
+    ensures act { OnOk
+        result
+        ((next : StateOf) → Leads graph.now place.point.0 place.to next →
+        HasNext graph.now found.new.places.items place next) }
 {
     match act(op, place.to) {
         Outcome::Next(next) => along_edges(graph, found, number, place, next)?,
@@ -376,7 +389,10 @@ fn pass_next(
     requires there { number < length found.old.places.items }
     requires table { IsMadeFor graph.now table.now }
     ensures grows { OnOk result (Grows graph.now found.old.places.items found.new.places.items found.new.last.items) }
-    ensures closed { OnOk result (IsClosedBelow graph.now found.old.places.items number → IsClosedBelow graph.now found.new.places.items (number + 1)) }
+    ensures closed { OnOk
+        result
+        (IsClosedBelow graph.now found.old.places.items number →
+        IsClosedBelow graph.now found.new.places.items (number + 1)) }
 {
     let place = found.places[number as usize];
     let function = graph.function(place.point);

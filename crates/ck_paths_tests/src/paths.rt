@@ -78,14 +78,26 @@ fn is_path(drawing: &Drawing, path: &Segments, expected: &PathCase) -> bool {
         })
 }
 
+/// The path to the first alarm of a case, asked of alone.
+fn path_alone(alloc: Global, case: &Case) -> Result<Option<Segments>, Fail> {
+    let graph = graph_of(alloc, &case.drawing)?;
+    let roots = roots_of(alloc, &case.drawing, &graph, case.roots)?;
+    let mut table = Table::new(alloc, &graph)?;
+    solve(&graph, &roots, &mut table);
+    let found = alarms(alloc, &graph, &table)?;
+    if found.is_empty() {
+        return Ok(None);
+    }
+    Ok(Some(path_to(alloc, &graph, &roots, &table, &found[0])?))
+}
+
 /// Whether the path of a case with one walk to its alarm is that walk.
 fn has_the_path(alloc: Global, case: &Case) -> Result<bool, Fail> {
     let Some(expected) = case.path else {
         return Ok(true);
     };
-    let (_, _, list) = answered(alloc, case)?;
-    match list.first() {
-        Some(alarm) => Ok(is_path(&case.drawing, &alarm.path, &expected)),
+    match path_alone(alloc, case)? {
+        Some(path) => Ok(is_path(&case.drawing, &path, &expected)),
         None => Ok(false),
     }
 }

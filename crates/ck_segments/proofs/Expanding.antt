@@ -80,7 +80,8 @@ real-more flow through lower more real = record {
   few = omega (arith, real.few, length-append lower more);
   paths = λ n does is.
       subst
-      (λ moves. IsMatchedPath flow (first_of flow does.function.0) does.entered moves (exit_of flow does.function.0) does.left)
+      (λ moves. IsMatchedPath flow (first_of flow does.function.0) does.entered moves (exit_of flow does.function.0)
+      does.left)
       (sym (index-append lower more [] n (omega (arith, real.few, slice_get_within through n does is))))
       (real.paths n does is);
 }

@@ -61,19 +61,25 @@ module _ (flow : Flow) (sound : IsSound flow) where
       AreReal flow (through ++ does ∷ []) (lower ++ steps_moves lower segment.steps ∷ [])
   real-push through lower any segment does same real stays runs =
       let moves : List Move = steps_moves lower segment.steps in
-      let path : IsMatchedPath flow (first_of flow segment.function.0) does.entered moves (exit_of flow segment.function.0) does.left =
+      let path : IsMatchedPath flow (first_of flow segment.function.0) does.entered moves
+      (exit_of flow segment.function.0) does.left =
       path-steps flow sound through lower any segment.steps (first_of flow segment.function.0) does.entered
       (exit_of flow segment.function.0) does.left real stays runs.steps in
-      let own : IsMatchedPath flow (first_of flow does.function.0) does.entered moves (exit_of flow does.function.0) does.left =
-      subst (λ f. IsMatchedPath flow (first_of flow f.0) does.entered moves (exit_of flow f.0) does.left) runs.function path in
+      let own : IsMatchedPath flow (first_of flow does.function.0) does.entered moves (exit_of flow does.function.0)
+      does.left =
+      subst (λ f. IsMatchedPath flow (first_of flow f.0) does.entered moves (exit_of flow f.0) does.left)
+      runs.function path in
       record {
         few = omega (arith, same, length-append through (does ∷ []), length-append lower (moves ∷ []));
         paths = λ n d is. elim (at-push through does n d is) [
           | inl before ↦ (real-more flow through lower (moves ∷ []) real).paths n d before
           | inr last ↦
-              subst (λ (e : Through). IsMatchedPath flow (first_of flow e.function.0) e.entered (slice_index_or (lower ++ moves ∷ []) n []) (exit_of flow e.function.0) e.left) last.1
-              (subst (λ m. IsMatchedPath flow (first_of flow does.function.0) does.entered m (exit_of flow does.function.0) does.left)
-              (sym (index-last lower moves []) ∙ ap (λ k. slice_index_or (lower ++ moves ∷ []) k []) (sym (last.0 ∙ same))) own)
+              subst (λ (e : Through). IsMatchedPath flow (first_of flow e.function.0) e.entered
+              (slice_index_or (lower ++ moves ∷ []) n []) (exit_of flow e.function.0) e.left) last.1
+              (subst (λ m. IsMatchedPath flow (first_of flow does.function.0) does.entered m
+              (exit_of flow does.function.0) does.left)
+              (sym (index-last lower moves []) ∙ ap (λ k. slice_index_or (lower ++ moves ∷ []) k [])
+              (sym (last.0 ∙ same))) own)
         ];
       }
 
@@ -85,15 +91,19 @@ module _ (flow : Flow) (sound : IsSound flow) where
       ((n : ℕ) (segment : PlainSegment) (does : Through) → slice_get finished n ≡ Some segment →
       slice_get through n ≡ Some does → RunsThrough flow (before ++ take n through) segment does) →
       AreReal flow (before ++ through) (lower_of lower finished)
-  real-finished before [] lower [] same long real stays runs = subst (λ ts. AreReal flow ts lower) (sym (append-none before)) real
+  real-finished before [] lower [] same long real stays runs =
+      subst (λ ts. AreReal flow ts lower) (sym (append-none before)) real
   real-finished before [] lower (s ∷ rest) same long real stays runs = absurd (omega (arith, long))
   real-finished before (t ∷ more) lower [] same long real stays runs = absurd (omega (arith, long))
   real-finished before (t ∷ more) lower (s ∷ rest) same long real stays runs =
       let moves : List Move = steps_moves lower s.steps in
-      let first : RunsThrough flow before s t = subst (λ ts. RunsThrough flow ts s t) (append-none before) (runs 0 s t refl refl) in
-      let here : AreReal flow (before ++ t ∷ []) (lower ++ moves ∷ []) = real-push before lower (stays 0 s refl).0 s t same real (stays 0 s refl).1 first in
+      let first : RunsThrough flow before s t = subst (λ ts. RunsThrough flow ts s t) (append-none before)
+      (runs 0 s t refl refl) in
+      let here : AreReal flow (before ++ t ∷ []) (lower ++ moves ∷ []) =
+      real-push before lower (stays 0 s refl).0 s t same real (stays 0 s refl).1 first in
       subst (λ ts. AreReal flow ts (lower_of (lower ++ moves ∷ []) rest)) (append_assoc before (t ∷ []) more)
       (real-finished (before ++ t ∷ []) more (lower ++ moves ∷ []) rest
       (omega (arith, same, length-append before (t ∷ []), length-append lower (moves ∷ []))) (omega (arith, long)) here
       (λ n segment is. stays (suc n) segment is)
-      (λ n segment does is at. subst (λ ts. RunsThrough flow ts segment does) (sym (append_assoc before (t ∷ []) (take n more))) (runs (suc n) segment does is at)))
+      (λ n segment does is at. subst (λ ts. RunsThrough flow ts segment does)
+      (sym (append_assoc before (t ∷ []) (take n more))) (runs (suc n) segment does is at)))

@@ -46,7 +46,8 @@ first_point flow (segment ∷ rest) = first_of flow segment.function.0
 
 module _ (flow : Flow) (sound : IsSound flow) where
   -- steps that end in a call that is gone into
-  record Goes (through : List Through) (p : ℕ) (i : State) (before : List Step) (target : FnId) (j : State) : Type 0 where
+  record Goes (through : List Through) (p : ℕ) (i : State) (before : List Step) (target : FnId) (j : State) : Type
+      0 where
     point : ℕ
     steps : StepsRun flow through p i before point j
     enters : MayEnter flow point target.0
@@ -143,7 +144,8 @@ module _ (flow : Flow) (sound : IsSound flow) where
       record {
         end = ends.end;
         walked =
-            ap (λ b. walked flow (running (first_of flow segment.function.0) e below i) (cond b moves [] ++ later)) goes ∙
+            ap (λ b. walked flow (running (first_of flow segment.function.0) e below i) (cond b moves [] ++ later))
+            goes ∙
             ends.walked;
         point_is = ends.point_is;
         state_is = ends.state_is;
@@ -167,7 +169,8 @@ walks flow sound root list form point state fit =
     let none : (n : ℕ) (segment : PlainSegment) → slice_get finished n ≡ Some segment → goes_in segment.steps ≡ false =
     λ n segment is. goes_in-stays (take n finished) segment.steps (form.each_finished n segment is).stays in
     let real : AreReal flow fit.through lower =
-    real-finished flow sound [] fit.through [] finished refl fit.same (record { few = omega arith; paths = λ n does is. absurd (cc) })
+    real-finished flow sound [] fit.through [] finished refl fit.same
+    (record { few = omega arith; paths = λ n does is. absurd (cc) })
     (λ n segment is. (take n finished, (form.each_finished n segment is).stays)) fit.each_through in
     let ends =
     ends-unfinished flow sound finished fit.through form.unfinished lower root.start point state real form.going_on
@@ -175,7 +178,8 @@ walks flow sound root list form point state fit =
     record {
       configuration = ends.end;
       walked =
-          ap (walk flow root) (ap expand form.parts ∙ expand-finished [] finished form.unfinished (something flow finished form.unfinished form.going_on) none) ∙
+          ap (walk flow root) (ap expand form.parts ∙ expand-finished [] finished form.unfinished
+          (something flow finished form.unfinished form.going_on) none) ∙
           (ap (λ p. walked flow (running p root.start [] root.start) (expand_from lower form.unfinished))
           (sym (starts-there flow root.function form.unfinished fit.starts)) ∙ ends.walked);
       point_is = ends.point_is;
@@ -204,7 +208,8 @@ lead-unfinished flow finished (s ∷ (next ∷ rest)) form (suc m) segment is =
 
 pub lead : SegmentsLead
 lead flow list form n segment is =
-    let at : slice_get (form.finished ++ form.unfinished) n ≡ Some segment = ap (λ xs. slice_get xs n) (sym form.parts) ∙ is in
+    let at : slice_get (form.finished ++ form.unfinished) n ≡ Some segment =
+    ap (λ xs. slice_get xs n) (sym form.parts) ∙ is in
     elim (split form.finished form.unfinished n segment at) [
       | inl finished ↦ (exit_of flow segment.function.0, (form.each_finished n segment finished).path)
       | inr open_one ↦ lead-unfinished flow form.finished form.unfinished form.going_on open_one.0 segment open_one.1

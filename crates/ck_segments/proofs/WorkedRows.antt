@@ -35,7 +35,17 @@ edges_to [] = []
 edges_to (n ∷ rest) = record { to = record { 0 = n }; label = label.Plain } ∷ edges_to rest
 
 abbrev point : PointKind → ℕ → List ℕ → List FnId → Point
-point kind owner to targets = record { kind = kind; function = function owner; site = Nowhere; path = []; order = []; side = 0; edges = edges_to to; targets = targets }
+point kind owner to targets = record {
+  kind = kind;
+  function = function owner;
+  site = Nowhere;
+  path = [];
+  order =
+      [];
+  side = 0;
+  edges = edges_to to;
+  targets = targets;
+}
 
 abbrev act_of : Op → PointKind
 act_of op = Act op (name.Outside 0)
@@ -54,7 +64,8 @@ handler = record {
   points =
       point (act_of Prologue) 0 (1 ∷ []) [] ∷ point Plain 0 (3 ∷ 2 ∷ []) [] ∷ point (act_of Epilogue) 0 (3 ∷ []) [] ∷
       point Exit 0 [] [] ∷
-      point (CallPoint 0) 1 (5 ∷ []) (function 0 ∷ []) ∷ point (act_of HandlerReturn) 1 (6 ∷ []) [] ∷ point Exit 1 [] [] ∷ [];
+      point (CallPoint 0) 1 (5 ∷ []) (function 0 ∷ []) ∷ point (act_of HandlerReturn) 1 (6 ∷ []) [] ∷ point Exit 1 []
+      [] ∷ [];
   functions = ends 0 3 ∷ ends 4 6 ∷ [];
 }
 
@@ -75,7 +86,8 @@ unfolding handler early_return vector_root point_at function_at
 alarm_of_early_return = refl
 
 -- the other edge reaches the epilogue, and the return is allowed
-no_alarm_of_the_other_edge : alarm_after handler (walk handler vector_root (expand (segment 0 (Edge 0 ∷ Edge 1 ∷ Edge 0 ∷ []) ∷ segment 1 (Call (function 0) 0 ∷ []) ∷ []))) ≡ Some None
+no_alarm_of_the_other_edge : alarm_after handler (walk handler vector_root
+    (expand (segment 0 (Edge 0 ∷ Edge 1 ∷ Edge 0 ∷ []) ∷ segment 1 (Call (function 0) 0 ∷ []) ∷ []))) ≡ Some None
 unfolding handler vector_root point_at function_at
 no_alarm_of_the_other_edge = refl
 
@@ -85,7 +97,8 @@ unfolding handler vector_root point_at function_at
 no_step_over_a_call = refl
 
 -- a segment that is cited before it is there stands for no moves, so the call comes back from no exit
-no_later_segment : walk handler vector_root (expand (segment 1 (Call (function 0) 1 ∷ []) ∷ segment 0 (Edge 0 ∷ Edge 0 ∷ []) ∷ [])) ≡ None
+no_later_segment : walk handler vector_root (expand (segment 1 (Call (function 0) 1 ∷ []) ∷ segment 0
+    (Edge 0 ∷ Edge 0 ∷ []) ∷ [])) ≡ None
 unfolding handler vector_root point_at function_at
 no_later_segment = refl
 
@@ -94,11 +107,13 @@ no_later_segment = refl
 nested : List PlainSegment
 nested =
     segment 3 (Edge 0 ∷ []) ∷ segment 2 (Call (function 3) 0 ∷ Call (function 3) 0 ∷ []) ∷
-    segment 0 (Enter (function 1) ∷ []) ∷ segment 1 (Call (function 2) 1 ∷ Enter (function 3) ∷ []) ∷ segment 3 (Edge 0 ∷ []) ∷ []
+    segment 0 (Enter (function 1) ∷ []) ∷ segment 1 (Call (function 2) 1 ∷ Enter (function 3) ∷ []) ∷ segment 3
+    (Edge 0 ∷ []) ∷ []
 
 nested_moves : expand nested ≡
     EnterTarget 1 ∷
-    EnterTarget 2 ∷ EnterTarget 3 ∷ TakeEdge 0 ∷ ReturnToCaller ∷ EnterTarget 3 ∷ TakeEdge 0 ∷ ReturnToCaller ∷ ReturnToCaller ∷
+    EnterTarget 2 ∷ EnterTarget 3 ∷ TakeEdge 0 ∷ ReturnToCaller ∷ EnterTarget 3 ∷ TakeEdge 0 ∷ ReturnToCaller ∷
+    ReturnToCaller ∷
     EnterTarget 3 ∷ TakeEdge 0 ∷ []
 unfolding nested
 nested_moves = refl

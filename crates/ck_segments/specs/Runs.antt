@@ -64,7 +64,8 @@ StartsIn function [] = ⊥
 StartsIn function (segment ∷ rest) = segment.function ≡ function
 
 -- the steps fit the states, from the root to this point and state
-pub record Fit (flow : Flow) (root : Root) (finished unfinished : List PlainSegment) (point : ℕ) (state : State) : Type 0 where
+pub record Fit (flow : Flow) (root : Root) (finished unfinished : List PlainSegment) (point : ℕ) (state : State) :
+    Type 0 where
   pub through : List Through
   pub same : length through ≡ length finished
   pub each_through :

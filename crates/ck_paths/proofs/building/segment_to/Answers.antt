@@ -18,5 +18,6 @@ returns c =
     record {
       entered = entered;
       traced = c.in_ok-traced.ensures.traced;
-      function = c.function-function.ensures ∙ ap (own_function c.args.graph.now) (one places n place entered.place at entered.at);
+      function = c.function-function.ensures ∙ ap (own_function c.args.graph.now)
+          (one places n place entered.place at entered.at);
     }

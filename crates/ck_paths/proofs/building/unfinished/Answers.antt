@@ -28,7 +28,8 @@ callers-init c =
       entered = c.in_ok-last.ensures.entered;
       cited = λ x h. c.requires.cited x (c.in_ok-last.ensures.traced.up _ x h);
       going_on =
-          subst (λ (xs : List PlainSegment). AreOpen flow places exits c.in_ok-last.last.entry xs c.args.number) (sym one)
+          subst (λ (xs : List PlainSegment). AreOpen flow places exits c.in_ok-last.last.entry xs c.args.number)
+          (sym one)
           c.in_ok-last.ensures;
     }
 
@@ -40,7 +41,11 @@ caller_of-requires c =
 pub index-requires : goal.index-requires
 index-requires c =
     let entered = c.callers.invariant.entered in
-    omega (arith, slice_get_within c.args.found.now.places.items c.callers.entry entered.place entered.at, c.args.found.now.places.ok.0)
+    omega (
+      arith,
+      slice_get_within c.args.found.now.places.items c.callers.entry entered.place entered.at,
+      c.args.found.now.places.ok.0,
+    )
 
 pub function-target-requires : goal.function-target-requires
 function-target-requires c =
@@ -86,7 +91,8 @@ callers-preserved c =
     let segment : PlainSegment = segment_of c.in_ok-part.part.segment in
     let more : AreOpen flow places exits c.in_ok-part.part.entry (segment ∷ old) c.args.number =
     open-more flow places exits c.in_ok-part.part.entry c.callers.entry c.in-Some.caller c.args.number
-    c.function-target.result segment old entered named c.in-Some.ensures c.in_ok-part.ensures c.callers.invariant.going_on in
+    c.function-target.result segment old entered named c.in-Some.ensures c.in_ok-part.ensures
+    c.callers.invariant.going_on in
     record {
       entered = c.in_ok-part.ensures.entered;
       cited = λ x h.
@@ -95,7 +101,8 @@ callers-preserved c =
           (c.in_ok-part.ensures.traced.up _ x h));
       going_on =
           subst (λ (xs : List PlainSegment). AreOpen flow places exits c.in_ok-part.part.entry xs c.args.number)
-          (sym (turned c.callers.list.items c.push-in-Some.new.self.items c.in_ok-part.part.segment c.in_ok-push-2.ensures.items))
+          (sym (turned c.callers.list.items c.push-in-Some.new.self.items c.in_ok-part.part.segment
+          c.in_ok-push-2.ensures.items))
           more;
     }
 
@@ -111,5 +118,6 @@ returns-clause-root c =
       | inl root ↦
           let number = c.root_of-root.ensures entered.place root.0 entered.at root.1 in
           (entered.place, entered.at, root.1 ∙ ap AtRoot (sym number))
-      | inr call ↦ absurd (c.in_default.ensures call.0 (record { place = entered.place; at = entered.at; cause = call.1 }))
+      | inr call ↦ absurd (c.in_default.ensures call.0 (record
+          { place = entered.place; at = entered.at; cause = call.1 }))
     ]

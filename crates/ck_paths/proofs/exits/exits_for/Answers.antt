@@ -14,7 +14,8 @@ exits-init c =
     let places = c.args.found.now.places.items in
     let set = c.new-pending.result in
     let none : (x : ℕ) → IsIn set x → ⊥ =
-    λ x h. let f : IsTrue false = subst (λ ks. IsTrue (list_any (is_at (nat_cmp x)) ks)) c.new-pending.ensures.empty h in absurd (cc) in
+    λ x h. let f : IsTrue false = subst (λ ks. IsTrue (list_any (is_at (nat_cmp x)) ks)) c.new-pending.ensures.empty
+    h in absurd (cc) in
     let items : c.new-exits.result.items ≡ [] = c.new-exits.ensures.items in
     record {
       few = omega (arith, ap length items);

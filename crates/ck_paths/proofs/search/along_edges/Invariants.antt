@@ -9,5 +9,6 @@ use Rattle.ck_paths.proofs.search.along_edges.Given as goal
 abbrev pub invariant-loop-k : goal.invariant-loop-k
 invariant-loop-k l = record {
   grows : Grows l.graph l.initial.found.places.items l.found.places.items l.found.last.items;
-  next : (k : ℕ) (edge : Edge) → k < l.k → HasEdge l.graph l.place.point.0 k edge → HasPlace l.found.places.items edge.to.0 l.place.from l.next;
+  next : (k : ℕ) (edge : Edge) → k < l.k → HasEdge l.graph l.place.point.0 k edge →
+      HasPlace l.found.places.items edge.to.0 l.place.from l.next;
 }

@@ -22,20 +22,30 @@ loop-k-preserved c =
     let n = c.loop-k.k in
     let root : Root = get_or roots n _ in
     let listed : slice_get roots n ≡ Some root = slice_get-get_or roots n _ c.loop-k-test.true in
-    let below : root.function.0 < function_count flow = All-contains (λ root. root.function.0 < function_count flow) roots root c.requires.roots (Contains-get_or roots n _ c.loop-k-test.true) in
+    let below : root.function.0 < function_count flow = All-contains (λ root. root.function.0 < function_count flow)
+    roots root c.requires.roots (Contains-get_or roots n _ c.loop-k-test.true) in
     let adds = c.in_ok-add.ensures in
     let kept = extends-added c.first.result root.start root.start (AtRoot n) mid new adds.added in
     record {
       ready = record { linked = adds.linked; size = adds.size ∙ c.loop-k.invariant.ready.size };
       justified = justified-added flow roots c.first.result root.start root.start (AtRoot n) mid new adds.added
-          (λ same. starts-at flow roots n root (record { point = c.first.result; from = root.start; to = root.start; reason = AtRoot n; same = same }) c.requires.sound below listed c.first.ensures refl refl)
+          (λ same. starts-at flow roots n root (record {
+            point = c.first.result;
+            from = root.start;
+            to =
+                root.start;
+            reason = AtRoot n;
+            same = same;
+          }) c.requires.sound below listed c.first.ensures refl refl)
           c.loop-k.invariant.justified;
       entered = λ k r before there. elim (cases_lt k n) [
-        | inl earlier ↦ has-kept mid new (first_of flow r.function.0) r.start r.start kept (c.loop-k.invariant.entered k r earlier there)
+        | inl earlier ↦ has-kept mid new (first_of flow r.function.0) r.start r.start kept
+            (c.loop-k.invariant.entered k r earlier there)
         | inr last ↦
             let number : k ≡ n = omega (arith, last, before) in
             let same : r ≡ root = same_Some r root (sym there ∙ (ap (slice_get roots) number ∙ listed)) in
-            let has : HasPlace new c.first.result.0 root.start root.start = has-added c.first.result root.start root.start (AtRoot n) mid new adds.added in
+            let has : HasPlace new c.first.result.0 root.start root.start =
+            has-added c.first.result root.start root.start (AtRoot n) mid new adds.added in
             subst (λ (x : Root). HasPlace new (first_of flow x.function.0) x.start x.start) (sym same)
             (subst (λ (p : PointId). HasPlace new p.0 root.start root.start) c.first.ensures has)
       ];
@@ -45,4 +55,9 @@ pub returns-clause-entered : goal.returns-clause-entered
 returns-clause-entered c = λ root listed.
     let roots : List Root = c.args.roots.now in
     let place = place-of roots root listed in
-    c.loop-k.invariant.entered place.0 root (omega (arith, c.loop-k-test.false, slice_get_within roots place.0 root place.1)) place.1
+    c.loop-k.invariant.entered place.0 root (omega (
+      arith,
+      c.loop-k-test.false,
+      slice_get_within roots place.0 root
+          place.1,
+    )) place.1

@@ -10,5 +10,6 @@ abbrev pub invariant-loop-k : goal.invariant-loop-k
 invariant-loop-k l = record {
   ready : IsReady l.graph l.found.places.items l.found.last.items;
   justified : AreJustified l.graph l.roots l.found.places.items;
-  entered : (k : ℕ) (root : Root) → k < l.k → slice_get l.roots k ≡ Some root → HasPlace l.found.places.items (first_of l.graph root.function.0) root.start root.start;
+  entered : (k : ℕ) (root : Root) → k < l.k → slice_get l.roots k ≡ Some root →
+      HasPlace l.found.places.items (first_of l.graph root.function.0) root.start root.start;
 }

@@ -12,5 +12,15 @@ put-requires-clause-holds c = λ same roots.
     let edges : List Edge = c.edges-edges.result.now in
     let edge : Edge = get_or edges 0 _ in
     let some : 0 < length c.edges-edges.result.now = search rules in
-    let has : HasEdge flow c.args.calls.point.0 0 edge = ap (λ (xs : List Edge). slice_get xs 0) (sym c.edges-edges.ensures) ∙ slice_get-get_or edges 0 _ some in
-    returns flow c.args.found.now.places.items c.args.caller c.args.exit c.args.target.0 c.args.calls c.args.ends (record { point = edge.to; from = c.args.calls.from; to = c.args.ends.to; reason = OverCall c.args.caller c.args.exit; same = same }) edge c.requires.sound c.requires.caller c.requires.exit c.requires.target c.requires.ends c.if-not-is_same.ensures has refl refl refl
+    let has : HasEdge flow c.args.calls.point.0 0 edge = ap (λ (xs : List Edge). slice_get xs 0)
+    (sym c.edges-edges.ensures) ∙ slice_get-get_or edges 0 _ some in
+    returns flow c.args.found.now.places.items c.args.caller c.args.exit c.args.target.0 c.args.calls c.args.ends
+    (record {
+      point = edge.to;
+      from = c.args.calls.from;
+      to = c.args.ends.to;
+      reason =
+          OverCall c.args.caller c.args.exit;
+      same = same;
+    }) edge c.requires.sound c.requires.caller c.requires.exit
+    c.requires.target c.requires.ends c.if-not-is_same.ensures has refl refl refl

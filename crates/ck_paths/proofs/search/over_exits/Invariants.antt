@@ -9,7 +9,8 @@ invariant-links l = record {
   grows : Grows l.graph l.initial.found.places.items l.found.places.items l.found.last.items;
   within : l.link ≤ length l.initial.found.places.items;
   there : LinksTo l.initial.found.places.items (exit_of l.graph l.target.0) l.link;
-  passed : HasExits l.graph l.initial.found.places.items l.found.places.items l.calls (exit_of l.graph l.target.0) l.link;
+  passed : HasExits l.graph l.initial.found.places.items l.found.places.items l.calls (exit_of l.graph l.target.0)
+      l.link;
 }
 
 abbrev pub decreases-links : goal.decreases-links

@@ -13,7 +13,8 @@ use Rattle.ck_paths.proofs.search.pass_exit.Goals as goal
 pub back_to-requires-clause-caller : goal.back_to-requires-clause-caller
 back_to-requires-clause-caller c =
     there-from_call c.args.graph.now (get_or c.args.callers.now c.loop-caller.caller-index _).0 c.args.target.0
-    ((c.requires.callers.exactly _).0 (Contains-get_or c.args.callers.now c.loop-caller.caller-index _ c.loop-caller-test.true))
+    ((c.requires.callers.exactly _).0 (Contains-get_or c.args.callers.now c.loop-caller.caller-index _
+    c.loop-caller-test.true))
 
 pub loop-caller-preserved : goal.loop-caller-preserved
 loop-caller-preserved c =
@@ -25,13 +26,18 @@ loop-caller-preserved c =
     let n = c.loop-caller.caller-index in
     let grew = c.in_ok-back_to.ensures.grows in
     record {
-      grows = Grows-then flow old mid new c.loop-caller.found.last.items c.back_to.new.found.last.items c.loop-caller.invariant.grows grew;
+      grows = Grows-then flow old mid new c.loop-caller.found.last.items c.back_to.new.found.last.items
+          c.loop-caller.invariant.grows grew;
       back = λ k p below there. elim (cases_lt k n) [
-        | inl before ↦ callers-kept flow old mid new c.args.ends p.0 grew.kept (c.loop-caller.invariant.back k p before there)
+        | inl before ↦ callers-kept flow old mid new c.args.ends p.0 grew.kept
+            (c.loop-caller.invariant.back k p before there)
         | inr last ↦
             let number : k ≡ n = omega (arith, last, below) in
-            let same : p ≡ get_or callers n _ = same_Some p (get_or callers n _) (sym there ∙ (ap (slice_get callers) number ∙ slice_get-get_or callers n _ c.loop-caller-test.true)) in
-            subst (λ (q : PointId). HasCallers flow old new c.args.ends q.0 0) (sym same) (callers-before flow old mid new c.args.ends _ c.loop-caller.invariant.grows.kept c.in_ok-back_to.ensures.callers)
+            let same : p ≡ get_or callers n _ = same_Some p (get_or callers n _)
+            (sym there ∙ (ap (slice_get callers) number ∙ slice_get-get_or callers n _ c.loop-caller-test.true)) in
+            subst (λ (q : PointId). HasCallers flow old new c.args.ends q.0 0) (sym same)
+            (callers-before flow old mid new c.args.ends _ c.loop-caller.invariant.grows.kept
+            c.in_ok-back_to.ensures.callers)
       ];
     }
 
@@ -39,4 +45,6 @@ pub returns-clause-back : goal.returns-clause-back
 returns-clause-back c = λ caller may.
     let callers = c.args.callers.now in
     let place = place-of callers (record { 0 = caller }) ((c.requires.callers.exactly (record { 0 = caller })).1 may) in
-    c.loop-caller.invariant.back place.0 (record { 0 = caller }) (omega (arith, c.loop-caller-test.false, slice_get_within callers place.0 (record { 0 = caller }) place.1)) place.1
+    c.loop-caller.invariant.back place.0 (record { 0 = caller })
+    (omega (arith, c.loop-caller-test.false, slice_get_within callers place.0 (record { 0 = caller }) place.1))
+    place.1

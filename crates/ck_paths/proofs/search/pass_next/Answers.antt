@@ -29,10 +29,13 @@ pass_on-requires-clause-callers c =
     let flow = c.args.graph.now in
     let place : Place = c.index-place.result.now in
     let callers = c.args.table.now.callers in
-    let at : IsAt c.args.found.now.places.items c.args.number place = slice_get_read c.args.found.now.places.items (length c.args.found.now.places.items) c.args.number place refl c.requires.there c.index-place.ensures in
+    let at : IsAt c.args.found.now.places.items c.args.number place =
+    slice_get_read c.args.found.now.places.items (length c.args.found.now.places.items) c.args.number place refl
+    c.requires.there c.index-place.ensures in
     let f : ℕ = function_of flow place in
     let point : place.point.0 < _ = c.requires.ready.linked.points c.args.number place at in
-    let below : f < function_count flow = (c.requires.sound.points place.point.0 (omega (arith, point, c.requires.ready.size))).function in
+    let below : f < function_count flow = (c.requires.sound.points place.point.0
+    (omega (arith, point, c.requires.ready.size))).function in
     let named : c.function-function.result.0 ≡ f = ap (λ (x : FnId). x.0) c.function-function.ensures in
     let list : c.callers.result.now ≡ callers_at callers f = c.callers.ensures ∙ ap (callers_at callers) named in
     subst (AreCallersOf flow f) (sym list) (record { exactly = c.requires.table.callers.exactly f below })
@@ -40,5 +43,8 @@ pass_on-requires-clause-callers c =
 pub returns-clause-closed : goal.returns-clause-closed
 returns-clause-closed c = λ closed.
     let place : Place = c.index-place.result.now in
-    let at : IsAt c.args.found.now.places.items c.args.number place = slice_get_read c.args.found.now.places.items (length c.args.found.now.places.items) c.args.number place refl c.requires.there c.index-place.ensures in
-    closed-more c.args.graph.now c.args.found.now.places.items c.pass_on.new.found.places.items c.args.number place c.requires.sound c.in_ok-pass_on.ensures.grows.kept at c.in_ok-pass_on.ensures.passed closed
+    let at : IsAt c.args.found.now.places.items c.args.number place =
+    slice_get_read c.args.found.now.places.items (length c.args.found.now.places.items) c.args.number place refl
+    c.requires.there c.index-place.ensures in
+    closed-more c.args.graph.now c.args.found.now.places.items c.pass_on.new.found.places.items c.args.number place
+    c.requires.sound c.in_ok-pass_on.ensures.grows.kept at c.in_ok-pass_on.ensures.passed closed

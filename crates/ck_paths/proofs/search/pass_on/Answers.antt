@@ -5,4 +5,5 @@ use Rattle.ck_paths.proofs.search.pass_on.Goals as goal
 
 pub pass_exit-requires-clause-callers : goal.pass_exit-requires-clause-callers
 pass_exit-requires-clause-callers c =
-    subst (λ (f : FnId). AreCallersOf c.args.graph.now f.0 c.args.callers.now) (sym c.function.ensures) c.requires.callers
+    subst (λ (f : FnId). AreCallersOf c.args.graph.now f.0 c.args.callers.now) (sym c.function.ensures)
+    c.requires.callers

@@ -14,7 +14,8 @@ loop-number-preserved c =
     record {
       ready = grew.ready;
       justified = grew.justified c.args.roots.now c.loop-number.invariant.justified;
-      entered = λ root listed. has-kept old new (first_of c.args.graph.now root.function.0) root.start root.start grew.kept (c.loop-number.invariant.entered root listed);
+      entered = λ root listed. has-kept old new (first_of c.args.graph.now root.function.0) root.start root.start
+          grew.kept (c.loop-number.invariant.entered root listed);
       closed = c.in_ok-pass_next.ensures.closed c.loop-number.invariant.closed;
     }
 
@@ -24,5 +25,6 @@ returns-then-number-len-clause-all c =
     let flow = c.args.graph.now in
     related-from_ReachesPair flow (HasPlace places) c.points-points.ensures.sound
     (closed-over flow places c.loop-number.number
-    (omega (arith, c.len.ensures, c.if-number-len.true, c.loop-number.found.places.ok.0)) c.loop-number.invariant.closed)
+    (omega (arith, c.len.ensures, c.if-number-len.true, c.loop-number.found.places.ok.0))
+    c.loop-number.invariant.closed)
     c.args.roots.now c.loop-number.invariant.entered

@@ -33,6 +33,7 @@ back-preserved c =
       cited = λ x h. c.back.invariant.cited x (c.in-Some.ensures.up false x h);
       traced =
           subst (λ (xs : List Step). IsTraced flow places exits c.in-Some.back.from c.args.number xs) (sym turned)
-          (traced-more flow places exits c.back.at c.in-Some.back.from c.args.number step (reverse old) c.in-Some.ensures
+          (traced-more flow places exits c.back.at c.in-Some.back.from c.args.number step (reverse old)
+          c.in-Some.ensures
           c.back.invariant.traced);
     }

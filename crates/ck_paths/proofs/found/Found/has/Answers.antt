@@ -13,18 +13,21 @@ links-init c =
     let places = c.args.self.now.places.items in
     let last = c.args.self.now.last.items in
     let p = c.args.point.0 in
-    let is : c.index-link.result.now ≡ last_at last p = get_or_read last p c.index-link.result.now c.requires.point c.index-link.ensures 0 in
+    let is : c.index-link.result.now ≡ last_at last p = get_or_read last p c.index-link.result.now c.requires.point
+    c.index-link.ensures 0 in
     record {
       within = subst (λ (x : ℕ). x ≤ length places) (sym is) (c.requires.linked.heads p);
       there = subst (LinksTo places p) (sym is) (LinksTo-start places last p c.requires.linked);
-      passed = subst (Passed places p c.args.from c.args.to) (sym is) (Passed-start places last p c.args.from c.args.to c.requires.linked);
+      passed = subst (Passed places p c.args.from c.args.to) (sym is)
+          (Passed-start places last p c.args.from c.args.to c.requires.linked);
     }
 
 pub returns-then-is_same-2 : goal.returns-then-is_same-2
 returns-then-is_same-2 c =
     let places = c.args.self.now.places.items in
     let place : Place = c.index-place.result.now in
-    let at : IsAt places (c.links.link - 1) place = slice_get_read places (length places) (c.links.link - 1) place refl (omega (arith, c.links.invariant.within, c.links-test.true)) c.index-place.ensures in
+    let at : IsAt places (c.links.link - 1) place = slice_get_read places (length places) (c.links.link - 1) place
+    refl (omega (arith, c.links.invariant.within, c.links-test.true)) c.index-place.ensures in
     record {
       number = c.links.link - 1;
       place = place;
@@ -38,7 +41,8 @@ pub links-smaller : goal.links-smaller
 links-smaller c =
     let places = c.args.self.now.places.items in
     let place : Place = c.index-place.result.now in
-    let at : IsAt places (c.links.link - 1) place = slice_get_read places (length places) (c.links.link - 1) place refl (omega (arith, c.links.invariant.within, c.links-test.true)) c.index-place.ensures in
+    let at : IsAt places (c.links.link - 1) place = slice_get_read places (length places) (c.links.link - 1) place
+    refl (omega (arith, c.links.invariant.within, c.links-test.true)) c.index-place.ensures in
     omega (arith, c.requires.linked.back (c.links.link - 1) place at, c.links-test.true)
 
 pub links-preserved : goal.links-preserved
@@ -48,7 +52,8 @@ links-preserved c =
     let p = c.args.point.0 in
     let n : ℕ = c.links.link - 1 in
     let place : Place = c.index-place.result.now in
-    let at : IsAt places n place = slice_get_read places (length places) n place refl (omega (arith, c.links.invariant.within, c.links-test.true)) c.index-place.ensures in
+    let at : IsAt places n place = slice_get_read places (length places) n place refl
+    (omega (arith, c.links.invariant.within, c.links-test.true)) c.index-place.ensures in
     let number : c.links.link ≡ n + 1 = omega (arith, c.links-test.true) in
     let point : place.point.0 ≡ p = c.links.invariant.there n place number at in
     record {
