@@ -84,13 +84,10 @@ const COMMON: [(IntegerType, IntegerType, IntegerType); 16] = [
 
 #[test]
 fn common_types(rt: HostRuntime) {
-    let mut row = 0;
     for (left, right, common) in COMMON {
-        assert!(rt;
-            left.common(right) == common && right.common(left) == common,
-            "at row {row}"
-        );
-        row += 1;
+        let ranks = (left.rank(), right.rank());
+        let both = left.common(right) == common && right.common(left) == common;
+        assert!(rt; both, "at ranks {} and {}", ranks.0, ranks.1);
     }
 }
 

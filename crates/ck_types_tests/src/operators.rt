@@ -142,11 +142,9 @@ const RESULTS: [(
 
 #[test]
 fn results_of_binary_operators(rt: HostRuntime) {
-    let mut row = 0;
     for (operator, left, x, right, y, of, value) in RESULTS {
         let result = operator.apply(value_of(left, x), value_of(right, y));
-        assert!(rt; result == Ok(value_of(of, value)), "at row {row}");
-        row += 1;
+        assert!(rt; result == Ok(value_of(of, value)), "at {x} and {y}");
     }
 }
 
@@ -209,11 +207,9 @@ const NO_RESULTS: [(
 
 #[test]
 fn binary_operators_without_result(rt: HostRuntime) {
-    let mut row = 0;
     for (operator, left, x, right, y, why) in NO_RESULTS {
         let result = operator.apply(value_of(left, x), value_of(right, y));
-        assert!(rt; result == Err(why), "at row {row}");
-        row += 1;
+        assert!(rt; result == Err(why), "at {x} and {y}");
     }
 }
 
@@ -267,11 +263,9 @@ const UNARY: [(UnaryOperator, IntegerType, i128, IntegerType, i128); 14] = [
 
 #[test]
 fn results_of_unary_operators(rt: HostRuntime) {
-    let mut row = 0;
     for (operator, operand, x, of, value) in UNARY {
         let result = operator.apply(value_of(operand, x));
-        assert!(rt; result == Ok(value_of(of, value)), "at row {row}");
-        row += 1;
+        assert!(rt; result == Ok(value_of(of, value)), "at {x}");
     }
 }
 
