@@ -123,8 +123,10 @@ inside p = record p { scope = length p.declared ∷ p.scope }
 -- the place after one more declaration
 abbrev pub declaring : Place → List ℕ → Token → Meaning → Place
 declaring p name at meaning =
-    record p { declared =
-        record { file = p.file; scope = p.scope; name = name; at = at; meaning = meaning } ∷ p.declared }
+    record p {
+      declared =
+          record { file = p.file; scope = p.scope; name = name; at = at; meaning = meaning } ∷ p.declared;
+    }
 
 -- the place after a scope that has closed: what was declared there stays in the list
 abbrev pub outside : Place → Place → Place

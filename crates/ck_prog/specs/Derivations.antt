@@ -39,7 +39,6 @@ abbrev pub counted_array : Place → Option ℕ → Option Qualified → Option 
 counted_array p None t = None
 counted_array p (Some n) t = if_small_type p (array_of p (Some n) t)
 
-
 -- 6.7.5.3 --------------------------------------------------------------------------------------------------------------
 
 -- the types of parameters, without qualifiers of their own, and whether `...` is at their end; none where one is missing
@@ -60,10 +59,13 @@ abbrev pub is_only_void : Option Qualified → Bool
 is_only_void None = false
 is_only_void (Some t) = is_void t.type && not t.qualifiers.constant && not t.qualifiers.volatile
 
--- the parameter and those after it; one of type `void` without a name, the only one, is no parameter
+-- one of type `void` without a name, the only one, is no parameter
+abbrev pub is_no_parameter : Option Token → Option Qualified → MoreParams → Bool
+is_no_parameter None t NoMore = is_only_void t
+is_no_parameter _ t _ = false
+
 abbrev pub with_first_type : Option Token → Option Qualified → MoreParams → Signature → Signature
-with_first_type None t NoMore others = if is_only_void t then no_parameters else with_next_type t others
-with_first_type name t more others = with_next_type t others
+with_first_type name t more others = if is_no_parameter name t more then no_parameters else with_next_type t others
 
 -- the result of a function is no array and no function
 abbrev pub function_of : Signature → Option Qualified → Option Qualified
@@ -96,6 +98,17 @@ made_by p (FunctionOf ps) t = function_of ps t
 abbrev pub made : Place → List Derivation → Option Qualified → Option Qualified
 made p [] t = t
 made p (d ∷ ds) t = made_by p d (made p ds t)
+
+-- elements of an incomplete type or of functions, or a result that is an array or a function
+abbrev pub is_impossible_by : Place → Derivation → Option Qualified → Bool
+is_impossible_by p OpenArray (Some t) = not (is_complete p t.type)
+is_impossible_by p (SizedArray c) (Some t) = not (is_complete p t.type)
+is_impossible_by p (FunctionOf ps) (Some t) = is_array t.type || is_function t.type
+is_impossible_by p _ _ = false
+
+abbrev pub is_impossible : Place → List Derivation → Option Qualified → Bool
+is_impossible p [] t = false
+is_impossible p (d ∷ ds) t = is_impossible p ds t || is_impossible_by p d (made p ds t)
 
 -- 6.7.5.1: `*` and the qualifiers after it; `restrict` has no effect
 abbrev pub with_qualifier : Place → Token → Qualifiers → Qualifiers

@@ -1,3 +1,6 @@
+-- What is promised: typed trees
+pub mod TypedTrees
+pub mod TypedExpressions
 -- What it rests on: declarations, and what a use means
 pub mod TypeClasses
 pub mod Declarations
@@ -16,3 +19,4 @@ pub mod AssignmentSenses
 pub mod UnarySenses
 pub mod PostfixSenses
 pub mod Typing
+pub mod Declaring

@@ -126,7 +126,7 @@ abbrev pub are_one : Entry → Entry → Bool
 are_one e d =
     bytes_eq e.name d.name
     && ((is_external (linkage_of e.meaning) && is_external (linkage_of d.meaning))
-        || (is_linked (linkage_of e.meaning) && is_linked (linkage_of d.meaning) && e.file == d.file))
+    || (is_linked (linkage_of e.meaning) && is_linked (linkage_of d.meaning) && e.file == d.file))
 
 abbrev pub joined_option : Option CType → Option CType → Option CType
 joined_option before None = before

@@ -36,8 +36,15 @@ is_zero _ = false
 
 abbrev pub no_type : Sense
 no_type =
-    record { type = None; qualifiers = plain; lvalue = false; constancy = Varying; null = false; fixed = false;
-             register = false }
+    record {
+      type = None;
+      qualifiers = plain;
+      lvalue = false;
+      constancy = Varying;
+      null = false;
+      fixed = false;
+      register = false;
+    }
 
 -- a value of a type that is no constant
 abbrev pub value : CType → Sense

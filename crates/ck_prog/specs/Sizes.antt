@@ -1,6 +1,6 @@
 -- The size and the alignment of a type at a place, none where the type is incomplete there (C99 6.2.5, 6.5.3.4); the
 -- members of structs, which are aligned naturally (6.7.2.1).
-use Rattle.std.specs.Prelude.{ℕ, ◌+◌, ◌-◌, ◌*◌, ◌/◌, ◌==◌, max, Bool, false, ◌&&◌, ◌||◌, nat_le, List}
+use Rattle.std.specs.Prelude.{ℕ, ◌+◌, ◌-◌, ◌*◌, ◌/◌, ◌==◌, max, Bool, false, ◌&&◌, ◌||◌, not, nat_le, List}
 use Rattle.std.specs.Prelude.{Option, Some, None, if◌then◌else◌}
 use Rattle.std.specs.Option.{is_some}
 use Rattle.std.specs.Str.{bytes_eq}
@@ -19,6 +19,10 @@ most_bytes = 16777216
 abbrev pub is_small : Option Layout → Bool
 is_small None = false
 is_small (Some l) = nat_le l.size most_bytes
+
+abbrev pub is_large : Option Layout → Bool
+is_large None = false
+is_large (Some l) = not (nat_le l.size most_bytes)
 
 abbrev pub if_small : Option Layout → Option Layout
 if_small l = if is_small l then l else None
@@ -117,10 +121,13 @@ is_constant_member p (Some t) = t.qualifiers.constant || has_constant p t.type
 abbrev pub next_member : Place → StructIdentity → Option Qualified → MemberOf
 next_member p s t =
     let before = last_member p s in
-    record { of = s; type = t;
-             offset = offset_after (front_before before) (type_layout p t);
-             front = front_with (front_before before) (type_layout p t);
-             constant = constant_before before || is_constant_member p t }
+    record {
+      of = s;
+      type = t;
+      offset = offset_after (front_before before) (type_layout p t);
+      front = front_with (front_before before) (type_layout p t);
+      constant = constant_before before || is_constant_member p t;
+    }
 
 -- the struct of all members so far, with bytes at its end up to its alignment
 abbrev pub padded : Option Layout → Option Layout

@@ -108,9 +108,12 @@ with_enumerator p name v = declaring p (text p name) name (Enumerator (enumerato
 -- 6.7.5.3 --------------------------------------------------------------------------------------------------------------
 
 -- a parameter of an array or function type is a pointer; none is `void`
+abbrev pub as_parameter : Qualified → Qualified
+as_parameter t = record t { type = as_value t.type }
+
 abbrev pub adjusted : Option Qualified → Option Qualified
 adjusted None = None
-adjusted (Some t) = if is_void t.type then None else Some (record t { type = as_value t.type })
+adjusted (Some t) = if is_void t.type then None else Some (as_parameter t)
 
 abbrev pub with_parameter : Place → Defining → Option Token → Option Qualified → Place
 with_parameter p d name t = declaring_name p name (Variable (adjusted t) NoLinkage d Automatic)

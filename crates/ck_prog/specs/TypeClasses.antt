@@ -86,5 +86,7 @@ elements_qualified q t = t
 
 abbrev pub qualified : Qualifiers → Qualified → Qualified
 qualified q t =
-    record { qualifiers = if is_array t.type then t.qualifiers else both q t.qualifiers;
-             type = elements_qualified q t.type }
+    record {
+      qualifiers = if is_array t.type then t.qualifiers else both q t.qualifiers;
+      type = elements_qualified q t.type;
+    }

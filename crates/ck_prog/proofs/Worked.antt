@@ -1,0 +1,101 @@
+-- Worked texts of declarations and of senses, computed on the definitions.
+use Rattle.std.proofs.Common.{◌≡◌, refl, pos}
+use Rattle.std.specs.Prelude.{true, false, codes, Some, None}
+use Rattle.ck_types.specs.Types.{Void, Pointer, Array, Struct, Function, NoParameters, Parameter, ByTypedef}
+use Rattle.ck_prog.specs.Declarations.{Variable, FunctionNamed, Enumerator}
+use Rattle.ck_prog.specs.Senses.{Varying, Valueless, Known}
+use Rattle.ck_prog.specs.TypeClasses.{plain, unqualified, int}
+use Rattle.ck_prog.specs.declared.names.Linkage.TheVariants.{Internal, External}
+use Rattle.ck_prog.specs.declared.names.Defining.TheVariants.{Declares, Tentative, Defines}
+use Rattle.ck_prog.specs.declared.names.Storage.TheVariants.{Static}
+use Rattle.ck_prog.proofs.Texts.{means, sense_in}
+
+-- 6.9.2
+tentative : means "int x ;" "x" ≡ Some (Variable (Some (unqualified int)) External Tentative Static)
+tentative = refl
+
+-- 6.7.2.2: the next value
+next_enumerator : means "enum { A , B = 5 , C } ;" "C" ≡ Some (Enumerator (Some (pos 6)))
+next_enumerator = refl
+
+-- 6.7.5.2
+arrays : means "int a [ 3 ] [ 2 + 2 ] ;" "a"
+    ≡ Some (Variable (Some (unqualified (Array plain (Array plain int (Some 4)) (Some 3)))) External Tentative Static)
+arrays = refl
+
+-- a size without a value gives no type
+no_size : means "int a [ 1 / 0 ] ;" "a" ≡ Some (Variable None External Tentative Static)
+no_size = refl
+
+-- 6.2.7: the composite type
+composed : means "int a [ 3 ] ; extern int a [ ] ;" "a"
+    ≡ Some (Variable (Some (unqualified (Array plain int (Some 3)))) External Declares Static)
+composed = refl
+
+-- 6.2.2: linkage stays internal
+stays_internal : means "static int f ( void ) ; int f ( void ) ;" "f"
+    ≡ Some (FunctionNamed (Some (Function plain int NoParameters false)) Internal Declares)
+stays_internal = refl
+
+-- 6.7.5.3: a function that takes a number and a handler and returns a handler
+signal : means "void ( * signal ( int s , void ( * h ) ( int ) ) ) ( int ) ;" "signal"
+    ≡ Some (FunctionNamed (Some (Function plain (Pointer plain (Function plain Void (Parameter int NoParameters) false))
+    (Parameter int
+    (Parameter (Pointer plain (Function plain Void (Parameter int NoParameters) false)) NoParameters)) false))
+    External Declares)
+signal = refl
+
+-- 6.7.2.1: the size of a struct with bytes between its members, through a typedef name without a tag
+sized : (sense_in "typedef struct { char c ; long long l ; char d ; } t ; t x ;" "sizeof x").constancy ≡ Known (pos 24)
+sized = refl
+
+named_struct : means "typedef struct { char c ; } t ; t x ;" "x"
+    ≡ Some (Variable (Some (unqualified (Struct (ByTypedef (codes "t"))))) External Tentative Static)
+named_struct = refl
+
+-- 6.2.1: an enumeration constant of `sizeof` is in sight after it
+late_name : (sense_in "int x ;" "sizeof ( enum { A = 4 , B } ) + B").constancy ≡ Known (pos 9)
+late_name = refl
+
+-- 6.6: `0 && 1 / 0` has a value, `1 / 0` is constant and has none, `1 || x` is no constant expression
+unevaluated : (sense_in "int x ;" "0 && 1 / 0").constancy ≡ Known (pos 0)
+unevaluated = refl
+
+divided : (sense_in "int x ;" "1 / 0").constancy ≡ Valueless
+divided = refl
+
+not_constant : (sense_in "int x ;" "1 || x").constancy ≡ Varying
+not_constant = refl
+
+overflow : (sense_in "int x ;" "2147483647 + 1").constancy ≡ Valueless
+overflow = refl
+
+wraps : (sense_in "int x ;" "4294967295u + 2").constancy ≡ Known (pos 1)
+wraps = refl
+
+-- 6.3.1.8: a negative operand beside an unsigned one
+unsigned_wins : (sense_in "int x ;" "- 1 < 0u").constancy ≡ Known (pos 0)
+unsigned_wins = refl
+
+negative : (sense_in "int x ;" "- 7 / 2 % 3").constancy ≡ Known (pos 0)
+negative = refl
+
+-- 6.5.2: members, indices, calls
+path : (sense_in "struct s { const int m [ 2 ] ; struct s * next ; } ; struct s a [ 3 ] ; struct s * f ( int n ) ;"
+    "f ( 1 ) -> next [ 2 ] . m [ 1 ]").type ≡ Some int
+path = refl
+
+wrong_argument : (sense_in "struct s { int m ; } ; struct s * f ( int n ) ;" "f ( f ( 1 ) ) -> m").type ≡ None
+wrong_argument = refl
+
+-- 6.3.2.3, 6.6
+null : (sense_in "int x ;" "( void * ) 0").null ≡ true
+null = refl
+
+address : (sense_in "struct s { int a ; int m [ 3 ] ; } ; struct s x ;" "& x . m [ 2 ] + 1").fixed ≡ true
+address = refl
+
+-- 6.2.1: a parameter hides the function in its own scope alone
+hidden : means "int f ( int f ) { return f ; }" "f"
+    ≡ Some (FunctionNamed (Some (Function plain int (Parameter int NoParameters) false)) External Defines)
+hidden = refl
