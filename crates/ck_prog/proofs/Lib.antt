@@ -1,2 +1,6 @@
+-- the theorems
+mod SenseOfTyped
+mod Scopes
+-- worked texts
 mod Texts
 mod Worked

@@ -1,4 +1,5 @@
--- What is promised: typed trees
+-- What is promised
+pub mod Laws
 pub mod TypedTrees
 pub mod TypedExpressions
 -- What it rests on: declarations, and what a use means
