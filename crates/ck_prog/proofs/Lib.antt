@@ -3,4 +3,6 @@ mod SenseOfTyped
 mod Scopes
 -- worked texts
 mod Texts
+mod Walks
 mod Worked
+mod WorkedTrees

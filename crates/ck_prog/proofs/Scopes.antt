@@ -1,6 +1,6 @@
 -- What is in sight where a scope opens and where one closes, and that what a name means is open and has that name.
-use Rattle.std.proofs.Common.{◌≡◌, ℕ, zero, suc, ◌+◌, ◌<◌, ◌≤◌, List, [], ◌∷◌, ◌++◌, length, refl, ap, arith, subst, sym, ◌∙◌}
-use Rattle.std.specs.Prelude.{Bool, true, false, ◌&&◌, ◌||◌, ◌==◌, if◌then◌else◌, Option, Some, None, Contains}
+use Rattle.std.proofs.Common.{◌≡◌, ℕ, suc, ◌<◌, ◌≤◌, List, [], ◌∷◌, ◌++◌, length, refl, ap, arith, subst, sym, ◌∙◌}
+use Rattle.std.specs.Prelude.{Bool, true, false, ◌&&◌, ◌==◌, if◌then◌else◌, Some, Contains}
 use Rattle.std.specs.Str.{bytes_eq}
 use Rattle.ck_prog.specs.Declarations.{Meaning, Entry, Place, ends_with, is_open, is_named, latest, meant_in, inside}
 use Rattle.ck_prog.specs.Declarations.{outside}

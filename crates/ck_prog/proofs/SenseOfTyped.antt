@@ -1,5 +1,5 @@
 -- A typed tree has the sense of its expression.
-use Rattle.std.proofs.Common.{◌≡◌, List, [], ◌∷◌, refl, ap, ◌∙◌}
+use Rattle.std.proofs.Common.{◌≡◌, [], ◌∷◌, refl, ap, ◌∙◌}
 use Rattle.std.specs.Prelude.{Option, None}
 use Rattle.ck_grammar.specs.Trees.{Expr, Operands, Suffixes, Name, Constant, Strings, Paren, Postfix, Unary, SizeofType}
 use Rattle.ck_grammar.specs.Trees.{Cast, Chain, Conditional, Assignment, NoOperands, Operand, NoSuffixes, Index}

@@ -2,7 +2,7 @@
 use Rattle.std.specs.Prelude.{◌≡◌, ℕ, ◌≤◌, Bool, true, List, [], ◌∷◌, ◌++◌, length, Contains, Some}
 use Rattle.std.specs.Str.{bytes_eq}
 use Rattle.ck_grammar.specs.Trees.{Expr}
-use Rattle.ck_prog.specs.Declarations.{Meaning, Entry, Place, is_open, is_ordinary, is_tag, meant_in, meant, inside, outside}
+use Rattle.ck_prog.specs.Declarations.{Meaning, Entry, Place, is_open, meant_in, inside, outside}
 use Rattle.ck_prog.specs.TypedExpressions.{typed_expression}
 use Rattle.ck_prog.specs.TypedTrees.{facts}
 use Rattle.ck_prog.specs.Typing.{sense}

@@ -2,6 +2,7 @@
 pub mod Laws
 pub mod TypedTrees
 pub mod TypedExpressions
+pub mod Acts
 -- What it rests on: declarations, and what a use means
 pub mod TypeClasses
 pub mod Declarations

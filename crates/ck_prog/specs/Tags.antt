@@ -3,18 +3,20 @@ use Rattle.std.specs.Prelude.{ℕ, Bool, true, false, ◌&&◌, not, List, [], �
 use Rattle.std.specs.Option.{is_some}
 use lib.IntN.{◌+ℤ◌}
 use Rattle.ck_base.specs.declared.tokens.Token.{Token}
+use Rattle.ck_grammar.specs.Trees.{Specifiers}
 use Rattle.ck_types.specs.IntegerTypes.{represents}
 use Rattle.ck_types.specs.Types.{StructIdentity, ByTag, ByTypedef, ByPlace, Struct}
 use Rattle.ck_types.specs.declared.integer_types.IntegerType.TheVariants.{Int}
 use Rattle.ck_prog.specs.Declarations.{Meaning, Variable, StructTag, EnumTag, Enumerator, Member, Place, text}
 use Rattle.ck_prog.specs.Declarations.{is_written, is_file_scope, meant_tag, tag_of_scope, declaring, declaring_name}
 use Rattle.ck_prog.specs.Declarations.{meaning_of}
+use Rattle.ck_prog.specs.Linking.{storage, storage_class}
 use Rattle.ck_prog.specs.Senses.{Constancy, Valueless, Known}
 use Rattle.ck_prog.specs.Sizes.{completed, next_member}
 use Rattle.ck_prog.specs.TypeClasses.{Qualified, unqualified, int, as_value, is_void}
 use Rattle.ck_prog.specs.declared.names.Linkage.TheVariants.{NoLinkage}
 use Rattle.ck_prog.specs.declared.names.Defining.{Defining}
-use Rattle.ck_prog.specs.declared.names.Storage.TheVariants.{Automatic}
+use Rattle.ck_prog.specs.declared.names.Storage.{Storage}
 
 -- What is around specifiers that matters to a tag in them: whether they are a whole declaration, as in `struct s;`
 -- (6.7.2.3), and the first typedef name that their declaration declares.
@@ -115,5 +117,9 @@ abbrev pub adjusted : Option Qualified → Option Qualified
 adjusted None = None
 adjusted (Some t) = if is_void t.type then None else Some (as_parameter t)
 
-abbrev pub with_parameter : Place → Defining → Option Token → Option Qualified → Place
-with_parameter p d name t = declaring_name p name (Variable (adjusted t) NoLinkage d Automatic)
+-- 6.7.5.3: the only storage class of a parameter is `register`
+abbrev pub parameter_storage : Place → Specifiers → Storage
+parameter_storage p s = storage (storage_class p s) NoLinkage
+
+abbrev pub with_parameter : Place → Defining → Specifiers → Option Token → Option Qualified → Place
+with_parameter p d s name t = declaring_name p name (Variable (adjusted t) NoLinkage d (parameter_storage p s))

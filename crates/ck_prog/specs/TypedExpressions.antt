@@ -365,7 +365,7 @@ abbrev mutual
       let base = base_type q s in
       in_specifiers p nothing_around s (in_declarator q r base [] d
       (parameter_part defining r ds (first_of_specifiers before s) d base others
-      (in_more_params defining (with_parameter r defining (name_of d) (made r ds base)) others more)))
+      (in_more_params defining (with_parameter r defining s (name_of d) (made r ds base)) others more)))
 
   pub in_more_params : Defining → Place → MoreParams → TypeParts → TypeParts
   in_more_params defining p NoMore more = more
@@ -377,4 +377,4 @@ abbrev mutual
       let base = base_type q s in
       in_specifiers p nothing_around s (in_declarator q r base [] d
       (WholeDeclarator (declarator_facts (OfParameter defining) r ds (first_of_specifiers comma s) d base)
-      (in_more_params defining (with_parameter r defining (name_of d) (made r ds base)) others more)))
+      (in_more_params defining (with_parameter r defining s (name_of d) (made r ds base)) others more)))

@@ -176,7 +176,7 @@ abbrev mutual
       let q = after_specifiers p nothing_around s in
       let r = after_declarator q d in
       let t = made r (derivations q d) (base_type q s) in
-      with_first_type (name_of d) t others (more_signature (with_parameter r Declares (name_of d) t) others)
+      with_first_type (name_of d) t others (more_signature (with_parameter r Declares s (name_of d) t) others)
 
   pub more_signature : Place → MoreParams → Signature
   more_signature p NoMore = no_parameters
@@ -185,7 +185,7 @@ abbrev mutual
       let q = after_specifiers p nothing_around s in
       let r = after_declarator q d in
       let t = made r (derivations q d) (base_type q s) in
-      with_next_type t (more_signature (with_parameter r Declares (name_of d) t) others)
+      with_next_type t (more_signature (with_parameter r Declares s (name_of d) t) others)
 
   -- the place after an expression, whose type names may declare --------------------------------------------------------
 
@@ -278,7 +278,7 @@ abbrev mutual
       let q = after_specifiers p nothing_around s in
       let r = after_declarator q d in
       let t = made r (derivations q d) (base_type q s) in
-      after_more_params defining (with_parameter r defining (name_of d) t) others
+      after_more_params defining (with_parameter r defining s (name_of d) t) others
 
   pub after_more_params : Defining → Place → MoreParams → Place
   after_more_params defining p NoMore = p
@@ -287,4 +287,4 @@ abbrev mutual
       let q = after_specifiers p nothing_around s in
       let r = after_declarator q d in
       let t = made r (derivations q d) (base_type q s) in
-      after_more_params defining (with_parameter r defining (name_of d) t) others
+      after_more_params defining (with_parameter r defining s (name_of d) t) others
