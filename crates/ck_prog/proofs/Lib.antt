@@ -1,5 +1,7 @@
 -- the theorems
 mod SenseOfTyped
+mod TreesDeclare
+mod Growth
 mod Scopes
 -- worked texts
 mod Texts

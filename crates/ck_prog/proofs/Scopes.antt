@@ -4,7 +4,9 @@ use Rattle.std.specs.Prelude.{Bool, true, false, ◌&&◌, ◌==◌, if◌then�
 use Rattle.std.specs.Str.{bytes_eq}
 use Rattle.ck_prog.specs.Declarations.{Meaning, Entry, Place, ends_with, is_open, is_named, latest, meant_in, inside}
 use Rattle.ck_prog.specs.Declarations.{outside}
-use Rattle.ck_prog.specs.Laws.{AreAtMost, IsScoped, AreInside, IsMeant}
+use Rattle.ck_prog.specs.Growing.{ComesAfter, AreAtMost, IsScoped, IsOrderly}
+use Rattle.ck_prog.specs.Laws.{IsMeant}
+use Rattle.ck_prog.proofs.Growth.{AreWithin, added}
 
 -- no scope that had opened before is the one that opens after more declarations
 new_scope : (m n : ℕ) (outer scope : List ℕ) → n < m → AreAtMost n scope
@@ -27,9 +29,9 @@ latest_inside space file m scope name (e ∷ es) below h =
     ∙ ap (λ r. if is_named space file scope name e then Some e else r)
     (latest_inside space file m scope name es (omega (arith, below)) h.1)
 
-pub opening_shows : (space : Meaning → Bool) (p : Place) (name : List ℕ) → IsScoped p.declared
+pub opening_shows : (space : Meaning → Bool) (p : Place) (name : List ℕ) → IsOrderly p
     → meant_in space (inside p) name ≡ meant_in space p name
-opening_shows space p name h = latest_inside space p.file (length p.declared) p.scope name p.declared (omega arith) h
+opening_shows space p name h = latest_inside space p.file (length p.declared) p.scope name p.declared (omega arith) h.0
 
 -- closing --------------------------------------------------------------------------------------------------------------
 
@@ -59,19 +61,21 @@ hidden_after space file scope name e inner n h =
     let ends : ends_with scope e.scope ≡ false = longer_ends_not scope e.scope longer in
     grind (arith, ends)
 
-latest_after : (space : Meaning → Bool) (file : ℕ) (scope name : List ℕ) (new es : List Entry) → AreInside scope new
+latest_after : (space : Meaning → Bool) (file n : ℕ) (scope name : List ℕ) (new es : List Entry)
+    → AreWithin (n ∷ scope) new
     → latest (is_named space file scope name) (new ++ es) ≡ latest (is_named space file scope name) es
-latest_after space file scope name [] es h = refl
-latest_after space file scope name (e ∷ new) es h =
+latest_after space file n scope name [] es h = refl
+latest_after space file n scope name (e ∷ new) es h =
     ap (λ b. if b then Some e else latest (is_named space file scope name) (new ++ es))
-    (hidden_after space file scope name e h.0.0 h.0.1 h.0.2)
-    ∙ latest_after space file scope name new es h.1
+    (hidden_after space file scope name e h.0.0 n h.0.1)
+    ∙ latest_after space file n scope name new es h.1
 
-pub closing_hides : (space : Meaning → Bool) (p q : Place) (new : List Entry) (name : List ℕ)
-    → q.declared ≡ new ++ p.declared → AreInside p.scope new
+pub closing_hides : (space : Meaning → Bool) (p q : Place) (name : List ℕ) → ComesAfter (inside p) q
     → meant_in space (outside p q) name ≡ meant_in space p name
-closing_hides space p q new name e h =
-    ap (latest (is_named space p.file p.scope name)) e ∙ latest_after space p.file p.scope name new p.declared h
+closing_hides space p q name c =
+    let a = added (inside p) q c in
+    ap (latest (is_named space p.file p.scope name)) a.declared_is
+    ∙ latest_after space p.file (length p.declared) p.scope name a.new p.declared a.within
 
 -- what is meant --------------------------------------------------------------------------------------------------------
 

@@ -191,3 +191,8 @@ size_of_string = refl
 -- 6.2.5: a size that another declaration tells is none before it
 size_unknown : (sense_in "extern int t [ ] ;" "sizeof t").type ≡ None
 size_unknown = refl
+
+-- 6.9.1: a struct in the parameters of a function that is defined is declared twice, and is of one size
+struct_in_parameters : (sense_in "int f ( struct s { int a ; } * p ) { return 0 ; } struct s { int a ; long long b ; } x ;"
+    "sizeof x").constancy ≡ Known (pos 16)
+struct_in_parameters = refl

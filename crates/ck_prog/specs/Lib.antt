@@ -1,5 +1,6 @@
 -- What is promised
 pub mod Laws
+pub mod Growing
 pub mod TypedTrees
 pub mod TypedExpressions
 pub mod Acts

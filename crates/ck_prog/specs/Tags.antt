@@ -62,10 +62,13 @@ with_struct p s keyword tag = declaring p (tag_name p keyword tag) (tag_token ke
 
 -- a `struct` and a tag without a body declare it, where it isn't in sight, or they are a whole declaration and it isn't
 -- of this scope
+abbrev pub is_new_tag : Place → Around → Token → Bool
+is_new_tag p around tag =
+    not (is_some (if around.alone then tag_of_scope p (text p tag) else meant_tag p (text p tag)))
+
 abbrev pub with_mention : Place → Around → Token → Token → Place
 with_mention p around keyword tag =
-    let known = if around.alone then tag_of_scope p (text p tag) else meant_tag p (text p tag) in
-    if is_written p keyword "struct" && not (is_some known)
+    if is_written p keyword "struct" && is_new_tag p around tag
     then with_struct p (new_struct p around keyword (Some tag)) keyword (Some tag) else p
 
 -- the type that `struct` or `enum` and a tag name; none where the tag is of the other kind or isn't in sight
@@ -121,5 +124,8 @@ adjusted (Some t) = if is_void t.type then None else Some (as_parameter t)
 abbrev pub parameter_storage : Place → Specifiers → Storage
 parameter_storage p s = storage (storage_class p s) NoLinkage
 
+abbrev pub parameter_meaning : Place → Defining → Specifiers → Option Qualified → Meaning
+parameter_meaning p d s t = Variable (adjusted t) NoLinkage d (parameter_storage p s)
+
 abbrev pub with_parameter : Place → Defining → Specifiers → Option Token → Option Qualified → Place
-with_parameter p d s name t = declaring_name p name (Variable (adjusted t) NoLinkage d (parameter_storage p s))
+with_parameter p d s name t = declaring_name p name (parameter_meaning p d s t)

@@ -22,7 +22,7 @@ use Rattle.ck_prog.specs.Linking.{unqualified_type}
 use Rattle.ck_prog.specs.Operators.{operator, prefix, assigning}
 use Rattle.ck_prog.specs.PostfixSenses.{element, result, member, access}
 use Rattle.ck_prog.specs.Senses.{Sense, Constancy}
-use Rattle.ck_prog.specs.Sizes.{is_large, type_layout, padded, front_before, last_member}
+use Rattle.ck_prog.specs.Sizes.{is_large, type_layout, padded, front_before, last_in_body}
 use Rattle.ck_prog.specs.Tags.{as_parameter}
 use Rattle.ck_prog.specs.Tags.{Around, nothing_around, struct_of_body, with_struct, with_mention, with_member}
 use Rattle.ck_prog.specs.Tags.{with_completion, with_enum, with_enumerator, first_value, next_value, with_parameter}
@@ -178,7 +178,7 @@ is_too_large p (Some n) t = is_large (type_layout p (array_of p (Some n) t))
 
 -- 6.7.2.1: the size of a struct after its last member
 abbrev pub whole_size : Place → StructIdentity → Option Layout
-whole_size p s = padded (front_before (last_member p s))
+whole_size p s = padded (front_before (last_in_body p s))
 
 abbrev mutual
   -- expressions (6.5) --------------------------------------------------------------------------------------------------

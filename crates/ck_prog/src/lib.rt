@@ -12,6 +12,8 @@ mod laws;
 mod names;
 mod operators;
 
-pub use laws::{closing_hides, means_open_entry, opening_shows, typed_keeps_sense};
+pub use laws::{
+    closing_hides, means_open_entry, opening_shows, stays_orderly, trees_declare, typed_keeps_sense,
+};
 pub use names::{Defining, Linkage, Storage};
 pub use operators::{Assigning, Operator, Prefix, Role};
