@@ -18,7 +18,8 @@ assoc : (xs ys zs : List Entry) → xs ++ (ys ++ zs) ≡ (xs ++ ys) ++ zs
 assoc [] ys zs = refl
 assoc (x ∷ xs) ys zs = ap (λ r. x ∷ r) (assoc xs ys zs)
 
-within_both : (scope : List ℕ) (xs ys : List Entry) → AreWithin scope xs → AreWithin scope ys → AreWithin scope (xs ++ ys)
+within_both : (scope : List ℕ) (xs ys : List Entry) → AreWithin scope xs → AreWithin scope ys
+    → AreWithin scope (xs ++ ys)
 within_both scope [] ys h k = k
 within_both scope (x ∷ xs) ys h k = (h.0, within_both scope xs ys h.1 k)
 
@@ -35,9 +36,10 @@ pub added : (p q : Place) → ComesAfter p q → Added p q
 added p q (AtOnce o) = record { new = []; declared_is = refl; scope_is = refl; within = tt }
 added p q (AfterName o r name at m c) =
     let a = added p r c in
+    let e : Entry = record { file = r.file; scope = r.scope; name = name; at = at; meaning = m } in
     record {
-      new = record { file = r.file; scope = r.scope; name = name; at = at; meaning = m } ∷ a.new;
-      declared_is = ap (λ es. record { file = r.file; scope = r.scope; name = name; at = at; meaning = m } ∷ es) a.declared_is;
+      new = e ∷ a.new;
+      declared_is = ap (λ es. e ∷ es) a.declared_is;
       scope_is = a.scope_is;
       within = (([], a.scope_is), a.within);
     }
@@ -53,7 +55,7 @@ added p q (AfterScope o r s c d) =
           a.within;
     }
 
--- order ----------------------------------------------------------------------------------------------------------------
+-- order ---------------------------------------------------------------------------------------------------------------
 
 more_at_most : (n m : ℕ) (ks : List ℕ) → n ≤ m → AreAtMost n ks → AreAtMost m ks
 more_at_most n m [] below h = tt

@@ -19,7 +19,8 @@ seen_inside : (space : Meaning → Bool) (file m n : ℕ) (scope name : List ℕ
 seen_inside space file m n scope name e below h =
     ap (λ b. space e.meaning && (e.file == file && b) && bytes_eq e.name name) (new_scope m n scope e.scope below h)
 
-latest_inside : (space : Meaning → Bool) (file m : ℕ) (scope name : List ℕ) (es : List Entry) → length es ≤ m → IsScoped es
+latest_inside : (space : Meaning → Bool) (file m : ℕ) (scope name : List ℕ) (es : List Entry) → length es ≤ m
+    → IsScoped es
     → latest (is_named space file (m ∷ scope) name) es ≡ latest (is_named space file scope name) es
 latest_inside space file m scope name [] below h = refl
 latest_inside space file m scope name (e ∷ es) below h =
@@ -33,7 +34,7 @@ pub opening_shows : (space : Meaning → Bool) (p : Place) (name : List ℕ) →
     → meant_in space (inside p) name ≡ meant_in space p name
 opening_shows space p name h = latest_inside space p.file (length p.declared) p.scope name p.declared (omega arith) h.0
 
--- closing --------------------------------------------------------------------------------------------------------------
+-- closing -------------------------------------------------------------------------------------------------------------
 
 longer_differs : (xs ys : List ℕ) → length xs < length ys → bytes_eq xs ys ≡ false
 longer_differs [] [] h = absurd (omega (arith, h))
@@ -77,7 +78,7 @@ closing_hides space p q name c =
     ap (latest (is_named space p.file p.scope name)) a.declared_is
     ∙ latest_after space p.file (length p.declared) p.scope name a.new p.declared a.within
 
--- what is meant --------------------------------------------------------------------------------------------------------
+-- what is meant -------------------------------------------------------------------------------------------------------
 
 record Found (test : Entry → Bool) (es : List Entry) (e : Entry) : Type 0 where
   listed : Contains es e

@@ -94,7 +94,8 @@ after_externals p (x ∷ xs) = after_externals (after_external p x) xs
 -- the place after one more file, which has this number
 abbrev pub after_file : List Entry → ℕ → String → Place
 after_file declared file line =
-    after_externals (record { declared = declared; file = file; bytes = codes line; scope = [] }) (externals_of file line)
+    after_externals (record { declared = declared; file = file; bytes = codes line; scope = [] })
+    (externals_of file line)
 
 abbrev pub after_text : String → Place
 after_text line = after_file [] 0 line

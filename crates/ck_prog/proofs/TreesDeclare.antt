@@ -109,16 +109,19 @@ mutual
   specifiers_declare p around (TypedefName t rest) = specifiers_declare p around rest
   specifiers_declare p around (Tagged keyword tag rest) =
       let q = with_mention p around keyword tag in
-      and_then p q (after_specifiers q around rest) (after_mention p around keyword tag) (specifiers_declare q around rest)
+      and_then p q (after_specifiers q around rest) (after_mention p around keyword tag)
+      (specifiers_declare q around rest)
   specifiers_declare p around (Struct keyword tag opening members closing rest) =
       let s = struct_of_body p around keyword tag in
       let q = with_struct p s keyword tag in
       let r = after_members q s members in
       let t = with_completion r s keyword tag in
-      and_then p q (after_specifiers t around rest) (after_one p (tag_name p keyword tag) (tag_token keyword tag) (StructTag s))
+      and_then p q (after_specifiers t around rest)
+      (after_one p (tag_name p keyword tag) (tag_token keyword tag) (StructTag s))
       (and_then q r (after_specifiers t around rest) (members_declare q s members)
       (and_then r t (after_specifiers t around rest)
-      (after_one r (tag_name r keyword tag) (tag_token keyword tag) (completed r s)) (specifiers_declare t around rest)))
+      (after_one r (tag_name r keyword tag) (tag_token keyword tag) (completed r s))
+      (specifiers_declare t around rest)))
   specifiers_declare p around (Enum keyword tag opening enumerators closing rest) =
       let q = with_enum p tag in
       let r = after_enumerators q first_value enumerators in
@@ -216,7 +219,7 @@ mutual
       (and_then q r end (declarator_declares q d)
       (and_then r first end (after_parameter r defining s (name_of d) t) (more_params_declare defining first others)))
 
--- declarations ---------------------------------------------------------------------------------------------------------
+-- declarations --------------------------------------------------------------------------------------------------------
 
 after_with_declared : (p : Place) (class : StorageClass) (is_function initialised : Bool) (name : Option Token)
     (t : Option Qualified) → ComesAfter p (with_declared p class is_function initialised name t)

@@ -125,7 +125,8 @@ adjusted_parameters = refl
 prototype_tag : (sense_in "void f ( struct s * p ) ; struct s { int a ; } ; struct s x ;" "f ( & x )").type ≡ None
 prototype_tag = refl
 
-file_tag : (sense_in "struct s ; void f ( struct s * p ) ; struct s { int a ; } ; struct s x ;" "f ( & x )").type ≡ Some Void
+file_tag : (sense_in "struct s ; void f ( struct s * p ) ; struct s { int a ; } ; struct s x ;" "f ( & x )").type
+    ≡ Some Void
 file_tag = refl
 
 -- 6.5.2.3, 6.7.3: a struct's qualifiers reach its members, the elements of arrays too
@@ -172,7 +173,8 @@ choice_of_two : (sense_in "int * p ; char * q ;" "1 ? p : q").type ≡ None
 choice_of_two = refl
 
 -- 6.5.16.1: a pointer to more qualifiers takes one to fewer
-more_qualifiers : (sense_in "const int * p ; int * q ;" "p = q").type ≡ Some (Pointer (record { constant = true; volatile = false }) int)
+more_qualifiers : (sense_in "const int * p ; int * q ;" "p = q").type
+    ≡ Some (Pointer (record { constant = true; volatile = false }) int)
 more_qualifiers = refl
 
 fewer_qualifiers : (sense_in "const int * p ; int * q ;" "q = p").type ≡ None
@@ -193,6 +195,25 @@ size_unknown : (sense_in "extern int t [ ] ;" "sizeof t").type ≡ None
 size_unknown = refl
 
 -- 6.9.1: a struct in the parameters of a function that is defined is declared twice, and is of one size
-struct_in_parameters : (sense_in "int f ( struct s { int a ; } * p ) { return 0 ; } struct s { int a ; long long b ; } x ;"
-    "sizeof x").constancy ≡ Known (pos 16)
+struct_in_parameters : (sense_in
+    "int f ( struct s { int a ; } * p ) { return 0 ; } struct s { int a ; long long b ; } x ;" "sizeof x").constancy ≡ Known (pos 16)
 struct_in_parameters = refl
+
+-- 6.4.4.1, 6.4.4.4: bases, suffixes and escapes
+hexadecimal : (sense_in "int x ;" "0x80000000").type ≡ Some (Integer integers.UnsignedInt)
+hexadecimal = refl
+
+decimal : (sense_in "int x ;" "2147483648").type ≡ Some (Integer integers.LongLong)
+decimal = refl
+
+octal : (sense_in "int x ;" "010 + 0xFuL").constancy ≡ Known (pos 23)
+octal = refl
+
+suffixes : (sense_in "int x ;" "1LLu").type ≡ Some (Integer integers.UnsignedLongLong)
+suffixes = refl
+
+escapes : (sense_in "int x ;" "'\\n' + '\\x41' + '\\101' + 'a'").constancy ≡ Known (pos 237)
+escapes = refl
+
+string_of_escapes : (sense_in "int x ;" "sizeof \"\\n\\x41\\101a\"").constancy ≡ Known (pos 5)
+string_of_escapes = refl

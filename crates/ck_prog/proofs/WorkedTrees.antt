@@ -18,7 +18,8 @@ roles_of_names : roles (seen_in (typed_in "void f ( void ) ; int t [ 3 ] ;" "( f
 roles_of_names = refl
 
 -- a call by a pointer names no function, nor does one of what a call gives
-called_functions : calls (seen_in (typed_in "void f ( void ) ; void ( * p ) ( void ) ; void ( * g ( int n ) ) ( void ) ;"
+called_functions : calls (seen_in (typed_in
+    "void f ( void ) ; void ( * p ) ( void ) ; void ( * g ( int n ) ) ( void ) ;"
     "f ( ) , ( f ) ( ) , p ( ) , g ( 1 ) ( ) , ( * f ) ( )"))
     ≡ (0, codes "f") ∷ (8, codes "f") ∷ (20, []) ∷ (28, codes "g") ∷ (28, []) ∷ (42, []) ∷ []
 called_functions = refl

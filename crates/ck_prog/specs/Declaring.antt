@@ -48,7 +48,7 @@ after_declared p class initialised base d =
     let t = made q ds base in
     with_declared q class (declares_function ds t) initialised (name_of d) t
 
--- functions that are defined (6.9.1) -----------------------------------------------------------------------------------
+-- functions that are defined (6.9.1) ----------------------------------------------------------------------------------
 
 abbrev pub with_defined : Place → StorageClass → Option Token → Option Qualified → Place
 with_defined p class None t = p

@@ -1,5 +1,5 @@
--- How places come after one another: by declarations, each in the scopes that are open, and by scopes that open and close
--- (C99 6.2.1).
+-- How places come after one another: by declarations, each in the scopes that are open, and by scopes that open and
+-- close (C99 6.2.1).
 use Rattle.std.specs.Prelude.{ℕ, ◌≤◌, List, [], ◌∷◌, length}
 use Rattle.ck_base.specs.declared.tokens.Token.{Token}
 use Rattle.ck_prog.specs.Declarations.{Meaning, Entry, Place, declaring, inside, outside}

@@ -42,7 +42,7 @@ storage_class p s =
     else if has_word p "register" s then RegisterClass
     else NoClass
 
--- 6.2.2 ----------------------------------------------------------------------------------------------------------------
+-- 6.2.2 ---------------------------------------------------------------------------------------------------------------
 
 abbrev pub is_linked : Linkage → Bool
 is_linked NoLinkage = false
@@ -92,7 +92,7 @@ defining p class true = Defines
 defining p ExternClass false = Declares
 defining p class false = if is_file_scope p.scope then Tentative else Defines
 
--- 6.2.7 ----------------------------------------------------------------------------------------------------------------
+-- 6.2.7 ---------------------------------------------------------------------------------------------------------------
 
 abbrev pub unqualified_type : Option Qualified → Option CType
 unqualified_type None = None
@@ -138,7 +138,7 @@ joined_over e [] = None
 joined_over e (d ∷ ds) =
     if are_one e d then joined_option (joined_over e ds) (type_of d.meaning) else joined_over e ds
 
--- declarations ---------------------------------------------------------------------------------------------------------
+-- declarations --------------------------------------------------------------------------------------------------------
 
 abbrev pub function_type : Place → Linkage → List ℕ → Option Qualified → Option CType
 function_type p l name None = None
@@ -153,8 +153,8 @@ object_declared p class initialised name t =
     let l = object_linkage p class name in
     Variable (object_type p l name t) l (defining p class initialised) (storage class l)
 
--- 6.7: what a declarator with this type declares, a function or not, after specifiers with this storage class, before an
--- initialiser or not
+-- 6.7: what a declarator with this type declares, a function or not, after specifiers with this storage class, before
+-- an initialiser or not
 abbrev pub declared_as : Place → StorageClass → Bool → Bool → List ℕ → Option Qualified → Meaning
 declared_as p TypedefClass is_function initialised name t = TypeNamed t
 declared_as p class true initialised name t = function_declared p class Declares name t

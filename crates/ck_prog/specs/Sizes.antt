@@ -6,7 +6,8 @@ use Rattle.std.specs.Option.{is_some}
 use Rattle.std.specs.Str.{bytes_eq}
 use Rattle.ck_types.specs.IntegerTypes.{size}
 use Rattle.ck_types.specs.Types.{StructIdentity, CType, Void, Integer, Pointer, Array, Struct, Function, same_struct}
-use Rattle.ck_prog.specs.Declarations.{Layout, MemberOf, Meaning, StructTag, Member, Completed, Place, latest, meaning_of}
+use Rattle.ck_prog.specs.Declarations.{Layout, MemberOf, Meaning, StructTag, Member, Completed, Place}
+use Rattle.ck_prog.specs.Declarations.{latest, meaning_of}
 use Rattle.ck_prog.specs.TypeClasses.{Qualified}
 
 -- an array has at most so many elements, and an object of a type at most so many bytes
@@ -34,7 +35,7 @@ abbrev pub times : Option ℕ → Option Layout → Option Layout
 times (Some n) (Some l) = Some (record { size = n * l.size; alignment = l.alignment })
 times _ _ = None
 
--- structs --------------------------------------------------------------------------------------------------------------
+-- structs -------------------------------------------------------------------------------------------------------------
 
 abbrev pub completes : StructIdentity → Meaning → Bool
 completes s (Completed t layout constant) = same_struct s t
@@ -52,7 +53,7 @@ abbrev pub completed_constant : Option Meaning → Bool
 completed_constant (Some (Completed s layout constant)) = constant
 completed_constant _ = false
 
--- types ----------------------------------------------------------------------------------------------------------------
+-- types ---------------------------------------------------------------------------------------------------------------
 
 abbrev pub layout : Place → CType → Option Layout
 layout p Void = None
@@ -72,7 +73,7 @@ has_constant p (Array q t n) = q.constant || has_constant p t
 has_constant p (Struct s) = completed_constant (completion p s)
 has_constant p _ = false
 
--- members --------------------------------------------------------------------------------------------------------------
+-- members -------------------------------------------------------------------------------------------------------------
 
 abbrev pub is_member : StructIdentity → Meaning → Bool
 is_member s (Member m) = same_struct s m.of
@@ -83,8 +84,8 @@ abbrev pub is_in_body : StructIdentity → Meaning → Bool
 is_in_body s (StructTag t) = same_struct s t
 is_in_body s m = is_member s m
 
--- the last member of the body that is open, or its tag. The parameters of a function that is defined are declared twice,
--- and with them the bodies in them.
+-- the last member of the body that is open, or its tag. The parameters of a function that is defined are declared
+-- twice, and with them the bodies in them.
 abbrev pub last_in_body : Place → StructIdentity → Option Meaning
 last_in_body p s = meaning_of (latest (λ e. is_in_body s e.meaning && e.file == p.file) p.declared)
 

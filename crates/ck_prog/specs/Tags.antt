@@ -27,7 +27,7 @@ pub record Around : Type 0 where
 abbrev pub nothing_around : Around
 nothing_around = record { alone = false; typedef = None }
 
--- 6.7.2.3 --------------------------------------------------------------------------------------------------------------
+-- 6.7.2.3 -------------------------------------------------------------------------------------------------------------
 
 -- a struct without a tag is declared under a text that is spelled like no tag, with the place of `struct`
 abbrev pub tag_name : Place → Token → Option Token → List ℕ
@@ -80,7 +80,7 @@ type_of_tag _ _ = None
 abbrev pub type_named_by_tag : Place → Token → List ℕ → Option Qualified
 type_named_by_tag p keyword name = type_of_tag (is_written p keyword "struct") (meaning_of (meant_tag p name))
 
--- 6.7.2.1 --------------------------------------------------------------------------------------------------------------
+-- 6.7.2.1 -------------------------------------------------------------------------------------------------------------
 
 abbrev pub with_member : Place → StructIdentity → Option Token → Option Qualified → Place
 with_member p s name t = declaring_name p name (Member (next_member p s t))
@@ -89,7 +89,7 @@ with_member p s name t = declaring_name p name (Member (next_member p s t))
 abbrev pub with_completion : Place → StructIdentity → Token → Option Token → Place
 with_completion p s keyword tag = declaring p (tag_name p keyword tag) (tag_token keyword tag) (completed p s)
 
--- 6.7.2.2 --------------------------------------------------------------------------------------------------------------
+-- 6.7.2.2 -------------------------------------------------------------------------------------------------------------
 
 abbrev pub with_enum : Place → Option Token → Place
 with_enum p tag = declaring_name p tag EnumTag
@@ -110,7 +110,7 @@ first_value = Known (pos 0)
 abbrev pub with_enumerator : Place → Token → Constancy → Place
 with_enumerator p name v = declaring p (text p name) name (Enumerator (enumerator_value v))
 
--- 6.7.5.3 --------------------------------------------------------------------------------------------------------------
+-- 6.7.5.3 -------------------------------------------------------------------------------------------------------------
 
 -- a parameter of an array or function type is a pointer; none is `void`
 abbrev pub as_parameter : Qualified → Qualified

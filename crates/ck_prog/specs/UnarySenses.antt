@@ -8,12 +8,14 @@ use Rattle.ck_prog.specs.AssignmentSenses.{is_modifiable}
 use Rattle.ck_prog.specs.BinarySenses.{points_to_object}
 use Rattle.ck_prog.specs.ConstantExpressions.{unary_constancy, cast_constancy}
 use Rattle.ck_prog.specs.Declarations.{Layout, Place}
-use Rattle.ck_prog.specs.Senses.{Constancy, Varying, Known, Sense, no_type, value_if, integer, pointer, value_type, from_type}
+use Rattle.ck_prog.specs.Senses.{Constancy, Varying, Known, Sense, no_type, value_if, integer, pointer, value_type}
+use Rattle.ck_prog.specs.Senses.{from_type}
 use Rattle.ck_prog.specs.Senses.{is_fixed_value, is_known, is_zero}
 use Rattle.ck_prog.specs.Sizes.{layout, if_small}
 use Rattle.ck_prog.specs.TypeClasses.{int, size_type, is_integer, is_pointer, is_scalar, is_function, is_void}
 use Rattle.ck_prog.specs.declared.operators.Prefix.{Prefix}
-use Rattle.ck_prog.specs.declared.operators.Prefix.TheVariants.{Unary, Increment, Decrement, Address, Dereference, SizeOf}
+use Rattle.ck_prog.specs.declared.operators.Prefix.TheVariants.{Unary, Increment, Decrement, Address, Dereference}
+use Rattle.ck_prog.specs.declared.operators.Prefix.TheVariants.{SizeOf}
 
 -- 6.5.3.3: of an integer as ck_types says; `!` of a pointer is an `int`
 abbrev pub unary_by : UnaryOperator → Sense → CType → Sense
@@ -60,7 +62,7 @@ prefix_sense p of_star Address a = from_type a.type (address of_star a)
 prefix_sense p of_star Dereference a = dereference a
 prefix_sense p of_star SizeOf a = size_of p a.type
 
--- 6.5.4 ----------------------------------------------------------------------------------------------------------------
+-- 6.5.4 ---------------------------------------------------------------------------------------------------------------
 
 -- 6.6: a cast of an integer to an integer type is a constant expression where its operand is
 abbrev pub constancy_as : CType → CType → Constancy → Constancy
