@@ -1,13 +1,15 @@
 -- How worked texts look into typed trees: all expressions of a tree with their facts, in written order, an expression
 -- before its parts and after that the values of its row. For worked texts alone.
-use Rattle.std.specs.Prelude.{ℕ, List, [], ◌∷◌, Option, Some, None, if◌then◌else◌}
+use Rattle.std.specs.Prelude.{ℕ, Bool, ℤ, List, [], ◌∷◌, Option, Some, None, if◌then◌else◌}
 use Rattle.std.specs.Option.{is_some}
 use Rattle.ck_prog.specs.Declarations.{Entry}
+use Rattle.ck_prog.specs.Derivations.{element_count}
+use Rattle.ck_prog.specs.Tags.{enumerator_value}
 use Rattle.ck_prog.specs.declared.operators.Role.{Role}
 use Rattle.ck_prog.specs.TypedTrees.{Typed, Links, Arguments, Steps, TypeParts, Facts, Name, Constant, Strings, Paren}
 use Rattle.ck_prog.specs.TypedTrees.{Postfix, Unary, SizeofType, Cast, Chain, Conditional, Assignment, NoLinks, Link}
 use Rattle.ck_prog.specs.TypedTrees.{NoArguments, Argument, NoSteps, Index, Call, Access, PostIncrement, NoParts}
-use Rattle.ck_prog.specs.TypedTrees.{Mention, StructBody, EnumeratorValue, Expression, ArraySize, WholeDeclarator}
+use Rattle.ck_prog.specs.TypedTrees.{Mention, StructBody, EnumeratorValue, Expression, ArraySize, WholeDeclarator, facts}
 
 -- a name, another value, or a call with the function that it names
 pub data Seen : Type 0 where
@@ -95,3 +97,39 @@ abbrev pub with_calls : List Seen → List ℕ
 with_calls [] = []
 with_calls (s ∷ rest) =
     if (facts_seen s).holds_call then (facts_seen s).first.span.start ∷ with_calls rest else with_calls rest
+
+-- sizes of arrays, with where they begin, how many elements they give, and whether the array is too large
+abbrev pub sizes : TypeParts → List (ℕ × Option ℕ × Bool)
+sizes NoParts = []
+sizes (Mention keyword tag e rest) = sizes rest
+sizes (StructBody keyword l rest) = sizes rest
+sizes (EnumeratorValue t v rest) = sizes rest
+sizes (Expression e rest) = sizes rest
+sizes (ArraySize e is_large rest) =
+    ((facts e).first.span.start, element_count (facts e).sense.constancy, is_large) ∷ sizes rest
+sizes (WholeDeclarator d rest) = sizes rest
+
+-- values of enumeration constants, with where they are written
+abbrev pub enumerators : TypeParts → List (ℕ × Option ℤ)
+enumerators NoParts = []
+enumerators (Mention keyword tag e rest) = enumerators rest
+enumerators (StructBody keyword l rest) = enumerators rest
+enumerators (EnumeratorValue t v rest) = (t.span.start, enumerator_value v) ∷ enumerators rest
+enumerators (Expression e rest) = enumerators rest
+enumerators (ArraySize e is_large rest) = enumerators rest
+enumerators (WholeDeclarator d rest) = enumerators rest
+
+-- declarators, with their spots, whether what they say is impossible, and whether their types are complete
+abbrev pub declarators : TypeParts → List (ℕ × Bool × Bool)
+declarators NoParts = []
+declarators (Mention keyword tag e rest) = declarators rest
+declarators (StructBody keyword l rest) = declarators rest
+declarators (EnumeratorValue t v rest) = declarators rest
+declarators (Expression e rest) = declarators rest
+declarators (ArraySize e is_large rest) = declarators rest
+declarators (WholeDeclarator d rest) = (d.spot.span.start, d.impossible, d.complete) ∷ declarators rest
+
+-- what is written in the type of `sizeof` ( type name )
+abbrev pub parts_of : Option Typed → TypeParts
+parts_of (Some (SizeofType f parts)) = parts
+parts_of _ = NoParts
