@@ -13,5 +13,7 @@ mod SensesFit
 -- Worked texts
 mod Texts
 mod Walks
+mod Rows
 mod Worked
+mod WorkedOperators
 mod WorkedTrees

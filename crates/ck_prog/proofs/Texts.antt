@@ -47,7 +47,7 @@ kind_of (b ∷ rest) =
     kind_by (is_keyword (b ∷ rest)) (b ∈range "az" || b ∈range "AZ" || b ∈ "_") (b ∈range "09") (b ∈ "\"") (b ∈ "'")
 
 -- the tokens that these words are, from a byte on
-abbrev tokens_from : ℕ → ℕ → List (List ℕ) → List Token
+abbrev pub tokens_from : ℕ → ℕ → List (List ℕ) → List Token
 tokens_from file start [] = []
 tokens_from file start (text ∷ texts) =
     record { kind = kind_of text; span = record { file = file; start = start; end = start + length text } }
@@ -60,7 +60,7 @@ tokens_of file line = tokens_from file 0 (words line)
 abbrev pub expression_of : List (List ℕ) → String → Option (Expr × List Token)
 expression_of typedefs line = expr_at (word_of (codes line) typedefs) most level.comma (tokens_of 0 line)
 
-abbrev or_empty : Option (List External) → List External
+abbrev pub or_empty : Option (List External) → List External
 or_empty None = []
 or_empty (Some xs) = xs
 
@@ -87,7 +87,7 @@ after_external p (FunctionDefinition s d opening items closing) =
     let q = after_function_name p s d in
     outside q (after_params Defines (inside q) (defined_params d))
 
-abbrev after_externals : Place → List External → Place
+abbrev pub after_externals : Place → List External → Place
 after_externals p [] = p
 after_externals p (x ∷ xs) = after_externals (after_external p x) xs
 
@@ -105,10 +105,10 @@ abbrev pub means : String → String → Option Meaning
 means line name = meaning_of (meant (after_text line) (codes name))
 
 -- in another text of the same file, as if it began there
-abbrev in_text : Place → String → Place
+abbrev pub in_text : Place → String → Place
 in_text p line = record p { bytes = codes line }
 
-abbrev sense_of_read : Place → Option (Expr × List Token) → Sense
+abbrev pub sense_of_read : Place → Option (Expr × List Token) → Sense
 sense_of_read p None = no_type
 sense_of_read p (Some e) = sense p e.0
 
