@@ -16,4 +16,5 @@ mod Walks
 mod Rows
 mod Worked
 mod WorkedOperators
+mod WorkedNames
 mod WorkedTrees

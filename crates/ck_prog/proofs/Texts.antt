@@ -16,9 +16,11 @@ use Rattle.ck_grammar.specs.Trees.{Expr, Declarator}
 use Rattle.ck_grammar.specs.Words.{words, ◌∈words◌, word_of}
 use Rattle.ck_prog.specs.BaseTypes.{base_type}
 use Rattle.ck_prog.specs.Declarations.{Entry, Meaning, Place, meant, meaning_of, inside, outside}
+use Rattle.ck_types.specs.Types.{CType}
+use Rattle.ck_prog.specs.Declaring.{at_body}
 use Rattle.ck_prog.specs.Declaring.{alone, after_first_specifiers, after_declared, after_function_name, defined_params}
-use Rattle.ck_prog.specs.Linking.{StorageClass, storage_class}
-use Rattle.ck_prog.specs.Senses.{Sense, no_type}
+use Rattle.ck_prog.specs.Linking.{StorageClass, storage_class, type_of}
+use Rattle.ck_prog.specs.Senses.{Sense, Constancy, no_type}
 use Rattle.ck_prog.specs.TypeClasses.{Qualified}
 use Rattle.ck_prog.specs.TypedExpressions.{typed_expression}
 use Rattle.ck_prog.specs.TypedTrees.{Typed}
@@ -127,3 +129,40 @@ typed_of_read p (Some e) = Some (typed_expression p Value e.0)
 -- the typed tree of an expression after a file
 abbrev pub typed_in : String → String → Option Typed
 typed_in line expression = typed_of_read (in_text (after_text line) expression) (expression_of [] expression)
+
+-- the place where the body of the last function begins
+abbrev body_of : Place → External → Place
+body_of p (FunctionDefinition s d opening items closing) = at_body p s d
+body_of p (FileDeclaration d) = p
+
+abbrev last_body : Place → List External → Place
+last_body p [] = p
+last_body p (x ∷ []) = body_of p x
+last_body p (x ∷ y ∷ xs) = last_body (after_external p x) (y ∷ xs)
+
+abbrev pub in_body : String → Place
+in_body line = last_body (record { declared = []; file = 0; bytes = codes line; scope = [] }) (externals_of 0 line)
+
+-- the sense of an expression in the body of the last function
+abbrev pub sense_in_body : String → String → Sense
+sense_in_body line expression = sense_of_read (in_text (in_body line) expression) (expression_of [] expression)
+
+abbrev type_of_meaning : Option Meaning → Option CType
+type_of_meaning None = None
+type_of_meaning (Some m) = type_of m
+
+-- the types of names after a file
+abbrev pub types_at : Place → List String → List (Option CType)
+types_at p [] = []
+types_at p (name ∷ names) = type_of_meaning (meaning_of (meant p (codes name))) ∷ types_at p names
+
+abbrev pub types_of : String → List String → List (Option CType)
+types_of line names = types_at (after_text line) names
+
+abbrev constancies_at : Place → List String → List Constancy
+constancies_at p [] = []
+constancies_at p (e ∷ es) = (sense_of_read (in_text p e) (expression_of [] e)).constancy ∷ constancies_at p es
+
+-- whether expressions are constant after a file
+abbrev pub constancies : String → List String → List Constancy
+constancies line es = constancies_at (after_text line) es
