@@ -9,7 +9,7 @@ abbrev file : List String
 file =
     "int i ; char c ; _Bool b ; const int ci ; int * p ; const int * cp ; char * pc ; void * v ; int a [ 3 ] ;"
     ∷ "struct s { int n ; int m [ 2 ] ; } x ; struct t * q ; void f ( int n ) ; void ( * fp ) ( int n ) ;"
-    ∷ "void g ( void ) ; int h ( int n , ... ) ; struct s k ( struct s y ) ; struct t u ( void ) ;"
+    ∷ "void g ( void ) ; int h ( int n , ... ) ; struct s k ( struct s y ) ; struct t u ( void ) ; void w ( struct t y ) ;"
     ∷ []
 
 -- 6.5.2.1
@@ -31,7 +31,7 @@ called = refl
 -- 6.5.2.2: too few and too many arguments, a wrong one, one without a value, an incomplete result, and no function
 not_called : LackTypes file (
     "f ( )" ∷ "f ( 1 , 2 )" ∷ "f ( p )" ∷ "g ( 1 )" ∷ "h ( )" ∷ "h ( 1 , g ( ) )" ∷ "k ( i )" ∷ "u ( )"
-    ∷ "i ( )" ∷ "p ( )" ∷ "f ( x )" ∷ [])
+    ∷ "i ( )" ∷ "p ( )" ∷ "f ( x )" ∷ "w ( * q )" ∷ [])
 not_called = refl
 
 -- 6.5.2.3
