@@ -9,7 +9,8 @@ abbrev file : List String
 file =
     "int i ; char c ; _Bool b ; const int ci ; int * p ; const int * cp ; char * pc ; void * v ; int a [ 3 ] ;"
     ∷ "struct s { int n ; int m [ 2 ] ; } x ; struct t * q ; void f ( int n ) ; void ( * fp ) ( int n ) ;"
-    ∷ "void g ( void ) ; int h ( int n , ... ) ; struct s k ( struct s y ) ; struct t u ( void ) ; void w ( struct t y ) ;"
+    ∷ "void g ( void ) ; int h ( int n , ... ) ; struct s k ( struct s y ) ; struct t u ( void ) ;"
+    ∷ "void w ( struct t y ) ;"
     ∷ []
 
 -- 6.5.2.1

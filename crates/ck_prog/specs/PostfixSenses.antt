@@ -34,7 +34,8 @@ abbrev pub is_value : Option CType → Bool
 is_value None = false
 is_value (Some t) = not (is_void t)
 
--- 6.5.2.2: each argument may be assigned to an object of its parameter's type; there are more arguments only after `...`
+-- 6.5.2.2: each argument may be assigned to an object of its parameter's type; there are more arguments only after
+-- `...`
 abbrev pub are_arguments : Place → Parameters → Bool → List Sense → Bool
 are_arguments p NoParameters more [] = true
 are_arguments p NoParameters more (s ∷ ss) = more && is_value (value_type s) && are_arguments p NoParameters more ss
