@@ -20,3 +20,9 @@ pub mod UnarySenses
 pub mod PostfixSenses
 pub mod Typing
 pub mod Declaring
+pub mod CurrentObjects
+pub mod TypedBodies
+pub mod TypedInitialisers
+pub mod TypedDeclarations
+pub mod TypedStatements
+pub mod TypedFiles
