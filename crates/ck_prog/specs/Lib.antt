@@ -26,3 +26,9 @@ pub mod TypedInitialisers
 pub mod TypedDeclarations
 pub mod TypedStatements
 pub mod TypedFiles
+pub mod Sights
+pub mod Projects
+pub mod DeclarationRefusals
+pub mod ExpressionRefusals
+pub mod BodyRefusals
+pub mod Refused
