@@ -1,5 +1,5 @@
 -- Entries of the state table, as docs/TI, TN, OX, TS, TD, HO, TL, XL, HB, NP, HL, ON, NL, TP, FF, HE.md has them, and the other definitions at work.
-use Rattle.std.proofs.Common.{◌≡◌, true, false, pos, Some, None, refl}
+use Rattle.std.proofs.Common.{◌≡◌, true, false, pos, Some, None, refl, [], ◌∷◌}
 use Rattle.std.specs.Prelude.{codes}
 use Rattle.ck_base.specs.declared.ops.Op.TheVariants.{Init, Disable, Suspend, Enable, Lock, Unlock, LockIsr, UnlockIsr, Prologue, Epilogue, IQuiet, IWakes, SPlain, SWakes, SSettles, Normal, ExitNormal, ExitS, Free, Halt, HandlerReturn, GetStatus, RestoreStatus, PairEnter, PairLeft}
 use Rattle.ck_base.specs.declared.states.State.TheVariants.{TI, TN, OX, TS, TD, HO, TL, XL, HB, NP, HL, ON, NL, TP, FF, HE}
@@ -10,6 +10,9 @@ use Rattle.ck_base.specs.Act.{act}
 use Rattle.ck_base.specs.Counters.{Thread, Handler, counters, counters_after, kernel_halt}
 use Rattle.ck_base.specs.KernelNames.{kernel_name}
 use Rattle.ck_base.specs.TokenText.{text_of}
+use Rattle.ck_base.specs.CharacterConstants.{character_constant_value, is_character_constant}
+use Rattle.ck_base.specs.CharacterConstants.{is_string_literal, string_values}
+use Rattle.ck_base.specs.IntegerConstants.{integer_value, is_integer_constant, suffix_of}
 
 Init-TI : act Init TI ≡ Next TN
 Init-TI = refl
@@ -190,3 +193,80 @@ no_kernel_name = refl
 
 a_token : text_of (codes "int x;") (record { kind = Word; span = record { file = 0; start = 4; end = 5 } }) ≡ codes "x"
 a_token = refl
+
+-- integer constants: base, value and suffix
+decimal_value : integer_value (codes "1024ul") ≡ 1024
+decimal_value = refl
+
+octal_value : integer_value (codes "0777") ≡ 511
+octal_value = refl
+
+hexadecimal_value : integer_value (codes "0xDeadBeefLLU") ≡ 3735928559
+hexadecimal_value = refl
+
+zero_value : integer_value (codes "0") ≡ 0
+zero_value = refl
+
+greatest_constant : is_integer_constant (codes "18446744073709551615u") ≡ true
+unfolding is_integer_constant
+greatest_constant = refl
+
+too_great : is_integer_constant (codes "9223372036854775808") ≡ false
+unfolding is_integer_constant
+too_great = refl
+
+no_octal : is_integer_constant (codes "09") ≡ false
+unfolding is_integer_constant
+no_octal = refl
+
+no_digit : is_integer_constant (codes "0xu") ≡ false
+unfolding is_integer_constant
+no_digit = refl
+
+suffix : suffix_of 16 (codes "0x1fuL") ≡ codes "uL"
+suffix = refl
+
+-- characters: plain, simple escapes, octal and hexadecimal ones up to 255
+plain_character : character_constant_value (codes "'A'") ≡ 65
+plain_character = refl
+
+line_feed : character_constant_value (codes "'\\n'") ≡ 10
+line_feed = refl
+
+bell : character_constant_value (codes "'\\a'") ≡ 7
+bell = refl
+
+quote : character_constant_value (codes "'\\''") ≡ 39
+quote = refl
+
+octal_escape : character_constant_value (codes "'\\377'") ≡ 255
+octal_escape = refl
+
+hexadecimal_escape : character_constant_value (codes "'\\x0041'") ≡ 65
+hexadecimal_escape = refl
+
+past_a_byte : is_character_constant (codes "'\\400'") ≡ false
+unfolding is_character_constant
+past_a_byte = refl
+
+unknown_escape : is_character_constant (codes "'\\q'") ≡ false
+unfolding is_character_constant
+unknown_escape = refl
+
+two_characters : is_character_constant (codes "'\\1234'") ≡ false
+unfolding is_character_constant
+two_characters = refl
+
+-- in a string literal an octal escape ends after three digits, and a hexadecimal one after all
+octal_in_a_string : string_values (codes "\"\\1234\"") ≡ 83 ∷ 52 ∷ []
+octal_in_a_string = refl
+
+mixed_string : string_values (codes "\"a\\0\\x41g\\\"\"") ≡ 97 ∷ 0 ∷ 65 ∷ 103 ∷ 34 ∷ []
+mixed_string = refl
+
+long_escape : is_string_literal (codes "\"\\x100\"") ≡ false
+unfolding is_string_literal
+long_escape = refl
+
+empty_string : string_values (codes "\"\"") ≡ []
+empty_string = refl

@@ -1,5 +1,5 @@
 -- Bytes as characters of ASCII, as C99 writes them.
-use Rattle.std.specs.Prelude.{ℕ, Bool, false, ◌||◌, ◌&&◌, ◌==◌, nat_le, List, [], ◌∷◌, codes}
+use Rattle.std.specs.Prelude.{ℕ, ◌-◌, Bool, false, ◌||◌, ◌&&◌, ◌==◌, nat_le, List, [], ◌∷◌, codes, slice_index}
 use Prim.Native.String.{String}
 
 abbrev pub is_among : ℕ → List ℕ → Bool
@@ -20,3 +20,21 @@ is_within b _ = false
 infix 60 ◌∈range◌
 abbrev pub ◌∈range◌ : ℕ → String → Bool
 b ∈range ends = is_within b (codes ends)
+
+-- how far a byte is after a character
+infix 75 ◌after◌
+abbrev pub ◌after◌ : ℕ → String → ℕ
+b after first = b - slice_index (codes first) 0
+
+abbrev pub is_digit : ℕ → Bool
+is_digit b = b ∈range "09"
+
+abbrev pub is_octal_digit : ℕ → Bool
+is_octal_digit b = b ∈range "07"
+
+abbrev pub is_hexadecimal_digit : ℕ → Bool
+is_hexadecimal_digit b = b ∈range "09" || b ∈range "af" || b ∈range "AF"
+
+-- \
+abbrev pub backslash : ℕ
+backslash = 92

@@ -5,9 +5,10 @@
 //! the law that ties the state table to the kernel's own checks. The definitions that rule it are
 //! `specs/Act.antt` (the state table of docs/STATES.md), `specs/Counters.antt` (the kernel's eleven
 //! checks on its two counters, and its status pair), `specs/Refusals.antt` and `specs/KernelNames.antt`.
-//! `specs/TokenText.antt` and `specs/Characters.antt` are for the crates above.
+//! `specs/TokenText.antt`, `specs/IntegerConstants.antt`, `specs/CharacterConstants.antt` (the values of
+//! constants by their bytes, C99 6.4.4 and 6.4.5) and `specs/Characters.antt` are for the crates above.
 //!
-//! It must not know: files, bytes, C, how settings are read, and how anything is computed.
+//! It must not know: files, what C means, how settings are read, and how anything is computed.
 #![tactic(auto)]
 
 mod events;

@@ -1,8 +1,10 @@
 -- One step towards a literal's closing quote.
-use Rattle.std.proofs.Common.{◌≡◌, ℕ, ◌+◌, ◌<◌, ◌≤◌, Bool, true, false, List, [], ◌∷◌, length, drop, Option, Some, None, ◌⊎◌, inl, inr, ap, sym, ◌∙◌, refl, arith, ⊎_elim}
+use Rattle.std.proofs.Common.{◌≡◌, ℕ, ◌+◌, ◌<◌, ◌≤◌, Bool, true, false, List, [], ◌∷◌, length, drop, Option, Some, None}
+use Rattle.std.proofs.Common.{◌⊎◌, inl, inr, ap, sym, ◌∙◌, refl, arith, ⊎_elim}
 use Rattle.std.specs.Prelude.{if◌then◌else◌, ◌==◌}
 use Rattle.std.proofs.lemmas.List.{drop-drop}
-use Rattle.ck_lexer.specs.Bytes.{backslash, is_line_feed}
+use Rattle.ck_base.specs.Characters.{backslash}
+use Rattle.ck_lexer.specs.Bytes.{is_line_feed}
 use Rattle.ck_lexer.specs.Scanning.{closing, literal_step, moved_by}
 use Rattle.ck_lexer.specs.declared.literals.Step.{Step}
 use Rattle.ck_lexer.specs.declared.literals.Step.TheVariants.{On, Closed, Broken}

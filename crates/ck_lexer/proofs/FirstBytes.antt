@@ -3,8 +3,10 @@ use Rattle.std.proofs.Common.{◌≡◌, ℕ, Bool, true, false, List, [], ◌�
 use Rattle.std.specs.Prelude.{◌||◌, ◌==◌, not, codes}
 use Rattle.std.specs.List.{list_all}
 use Rattle.std.proofs.lemmas.Bool.Decides.{nat_tests}
-use Rattle.ck_lexer.specs.Bytes.{is_digit, is_nondigit, is_identifier_byte, is_quote, quote, double_quote}
-use Rattle.ck_lexer.specs.Preprocessing.{is_identifier, is_number, begins_number, go_on_after, is_literal, is_quoted, is_closed, is_punctuator, punctuators, is_preprocessing_token}
+use Rattle.ck_base.specs.Characters.{is_digit}
+use Rattle.ck_lexer.specs.Bytes.{is_nondigit, is_identifier_byte, is_quote, quote, double_quote}
+use Rattle.ck_lexer.specs.Preprocessing.{is_identifier, is_number, begins_number, go_on_after, is_literal, is_quoted}
+use Rattle.ck_lexer.specs.Preprocessing.{is_closed, is_punctuator, punctuators, is_preprocessing_token}
 use Rattle.ck_lexer.specs.Scanning.{is_single}
 use Rattle.ck_lexer.proofs.Tests.{and-left, or-either, or-none, no-test, from-not, among-texts, among-bytes, eqb-same}
 

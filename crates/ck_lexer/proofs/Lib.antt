@@ -16,6 +16,7 @@ mod Closing
 mod LiteralLemmas
 mod CommentLemmas
 mod Characters
+mod FlagLemmas
 mod Values
 mod Sizes
 -- Tokens so far

@@ -1,10 +1,12 @@
 -- Literals: how many bytes go up to the quote that closes one, and what those bytes are.
-use Rattle.std.proofs.Common.{◌≡◌, ℕ, zero, suc, ◌+◌, ◌<◌, ◌≤◌, Bool, true, false, not, ◌&&◌, ◌==◌, List, [], ◌∷◌, ◌++◌, length, take, Option, Some, None, refl, ap, subst, arith}
+use Rattle.std.proofs.Common.{◌≡◌, ℕ, zero, suc, ◌+◌, ◌<◌, ◌≤◌, Bool, true, false, not, ◌&&◌, ◌==◌, List, [], ◌∷◌, ◌++◌}
+use Rattle.std.proofs.Common.{length, take, Option, Some, None, refl, ap, subst, arith}
 use Rattle.std.specs.Option.{option_map}
 use Rattle.std.proofs.lemmas.Bool.{and_parts, eqb-true}
 use Rattle.std.proofs.lemmas.Bool.Decides.{nat_tests}
 use Rattle.std.proofs.lemmas.Option.{cond_some, none-some}
-use Rattle.ck_lexer.specs.Bytes.{backslash, is_line_feed}
+use Rattle.ck_base.specs.Characters.{backslash}
+use Rattle.ck_lexer.specs.Bytes.{is_line_feed}
 use Rattle.ck_lexer.specs.Preprocessing.{is_closed}
 use Rattle.ck_lexer.specs.Scanning.{closing}
 

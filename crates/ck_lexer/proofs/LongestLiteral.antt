@@ -1,14 +1,18 @@
 -- The longest token at a quote: the literal that the next such quote closes.
-use Rattle.std.proofs.Common.{◌≡◌, ℕ, zero, suc, ◌<◌, ◌≤◌, true, false, List, ◌∷◌, length, take, drop, Some, None, refl, sym, ap, ◌∙◌, arith, ⊎_elim, take-append-drop}
+use Rattle.std.proofs.Common.{◌≡◌, ℕ, zero, suc, ◌<◌, ◌≤◌, true, false, List, ◌∷◌, length, take, drop, Some, None, refl}
+use Rattle.std.proofs.Common.{sym, ap, ◌∙◌, arith, ⊎_elim, take-append-drop}
 use Rattle.std.specs.Prelude.{◌||◌, ◌==◌}
 use Rattle.std.proofs.lemmas.Bool.Decides.{nat_tests}
 use Rattle.std.proofs.lemmas.List.{length-take-le}
-use Rattle.ck_lexer.specs.Bytes.{is_quote, quote, double_quote, backslash}
-use Rattle.ck_lexer.specs.Preprocessing.{is_identifier, is_number, is_literal, is_quoted, is_closed, is_punctuator, is_preprocessing_token}
+use Rattle.ck_base.specs.Characters.{backslash}
+use Rattle.ck_lexer.specs.Bytes.{is_quote, quote, double_quote}
+use Rattle.ck_lexer.specs.Preprocessing.{is_identifier, is_number, is_literal, is_quoted, is_closed, is_punctuator}
+use Rattle.ck_lexer.specs.Preprocessing.{is_preprocessing_token}
 use Rattle.ck_lexer.specs.Lexemes.{IsLongestToken, BeginsNoToken}
 use Rattle.ck_lexer.specs.Scanning.{closing}
 use Rattle.ck_lexer.proofs.Tests.{and-left, and-right, and-both, or-left, or-right, or-either, eqb-same}
-use Rattle.ck_lexer.proofs.FirstBytes.{no_token, number-first, punctuator-first, identifier-first, single-quote, nondigit-quote}
+use Rattle.ck_lexer.proofs.FirstBytes.{no_token, number-first, punctuator-first, identifier-first, single-quote}
+use Rattle.ck_lexer.proofs.FirstBytes.{nondigit-quote}
 use Rattle.ck_lexer.proofs.LongestNumber.{number-no_quote}
 use Rattle.ck_lexer.proofs.LiteralLemmas.{closing-is_closed, is_closed-closing}
 

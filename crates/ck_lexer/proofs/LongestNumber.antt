@@ -1,13 +1,18 @@
 -- The longest token at a byte that begins a number.
-use Rattle.std.proofs.Common.{◌≡◌, ℕ, zero, suc, ◌<◌, ◌≤◌, true, false, List, [], ◌∷◌, length, take, get_or, ◌⊎◌, inl, inr, refl, ap, ◌∙◌, arith, ⊎_elim}
+use Rattle.std.proofs.Common.{◌≡◌, ℕ, zero, suc, ◌<◌, ◌≤◌, true, false, List, [], ◌∷◌, length, take, get_or, ◌⊎◌, inl}
+use Rattle.std.proofs.Common.{inr, refl, ap, ◌∙◌, arith, ⊎_elim}
 use Rattle.std.specs.Prelude.{◌&&◌, ◌||◌, ◌==◌}
 use Rattle.std.proofs.lemmas.Bool.Decides.{nat_tests}
-use Rattle.ck_lexer.specs.Bytes.{is_digit, is_nondigit, is_identifier_byte, is_quote}
-use Rattle.ck_lexer.specs.Preprocessing.{is_identifier, is_number, is_literal, is_punctuator, begins_number, goes_on, go_on_after, is_preprocessing_token}
+use Rattle.ck_base.specs.Characters.{is_digit}
+use Rattle.ck_lexer.specs.Bytes.{is_nondigit, is_identifier_byte, is_quote}
+use Rattle.ck_lexer.specs.Preprocessing.{is_identifier, is_number, is_literal, is_punctuator, begins_number, goes_on}
+use Rattle.ck_lexer.specs.Preprocessing.{go_on_after, is_preprocessing_token}
 use Rattle.ck_lexer.specs.Lexemes.{IsLongestToken}
 use Rattle.ck_lexer.specs.Scanning.{run_after, punctuator_size}
-use Rattle.ck_lexer.proofs.Tests.{and-left, and-right, and-both, or-left, or-right, or-either, no-test, eqb-same, either-test}
-use Rattle.ck_lexer.proofs.FirstBytes.{no_token, literal-first, punctuator-first, identifier-first, single-digit, digit-quote, nondigit-digit}
+use Rattle.ck_lexer.proofs.Tests.{and-left, and-right, and-both, or-left, or-right, or-either, no-test, eqb-same}
+use Rattle.ck_lexer.proofs.Tests.{either-test}
+use Rattle.ck_lexer.proofs.FirstBytes.{no_token, literal-first, punctuator-first, identifier-first, single-digit}
+use Rattle.ck_lexer.proofs.FirstBytes.{digit-quote, nondigit-digit}
 use Rattle.ck_lexer.proofs.Punctuators.{punctuator-le}
 
 -- a run of bytes that go on

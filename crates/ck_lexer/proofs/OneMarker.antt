@@ -1,5 +1,7 @@
 -- What a line marker gives is what `marker_of` reads, so no line gives two.
-use Rattle.std.proofs.Common.{◌≡◌, ℕ, suc, ◌+◌, ◌-◌, ◌<◌, ◌≤◌, Bool, true, false, ◌&&◌, ◌==◌, nat_le, List, [], ◌∷◌, ◌++◌, length, take, drop, take-take, Option, Some, None, refl, sym, ap, ◌∙◌, subst, arith, append_assoc, take-append-drop, length-append}
+use Rattle.std.proofs.Common.{◌≡◌, ℕ, suc, ◌+◌, ◌-◌, ◌<◌, ◌≤◌, Bool, true, false, ◌&&◌, ◌==◌, nat_le, List, [], ◌∷◌}
+use Rattle.std.proofs.Common.{◌++◌, length, take, drop, take-take, Option, Some, None, refl, sym, ap, ◌∙◌, subst, arith}
+use Rattle.std.proofs.Common.{append_assoc, take-append-drop, length-append}
 use Rattle.std.specs.List.{list_all, prefix_len}
 use Rattle.std.specs.Prelude.{codes}
 use Rattle.std.proofs.lemmas.Bool.{and_parts, le-leb, leb-true, eqb-true}
@@ -7,11 +9,14 @@ use Rattle.std.proofs.lemmas.Bool.Decides.{nat_tests}
 use Rattle.std.proofs.lemmas.List.{take_at, drop_at, length-take-le}
 use Rattle.std.proofs.lemmas.List.Folds.{length-prefix_len}
 use Rattle.std.proofs.lemmas.Option.{cond_some, none-some, some_pair_parts}
-use Rattle.ck_lexer.specs.Bytes.{double_quote, is_blank, is_digit}
-use Rattle.ck_lexer.specs.Constants.{value_of}
-use Rattle.ck_lexer.specs.Markers.{IsMarker, are_flags, hash}
+use Rattle.ck_base.specs.Characters.{is_digit}
+use Rattle.ck_lexer.specs.Bytes.{double_quote, is_blank}
+use Rattle.ck_base.specs.IntegerConstants.{value_of}
+use Rattle.ck_lexer.specs.Markers.{IsMarker, hash}
 use Rattle.ck_lexer.specs.Preprocessing.{is_closed}
-use Rattle.ck_lexer.specs.Scanning.{after_blanks, closing, marker_digits, marker_end, marker_name, marker_number, marker_of}
+use Rattle.ck_lexer.proofs.FlagLemmas.{are_flags-complete, are_flags-sound}
+use Rattle.ck_lexer.specs.Scanning.{after_blanks, are_flags, closing, marker_digits, marker_end, marker_name}
+use Rattle.ck_lexer.specs.Scanning.{marker_number, marker_of}
 use Rattle.ck_lexer.proofs.LiteralLemmas.{closing-is_closed, either, is_closed-closing, is_closed-last}
 use Rattle.ck_lexer.proofs.Values.{value-small}
 
@@ -130,7 +135,7 @@ marker_of-complete line number name m =
     (no_blanks_before m.digits (m.between ++ (double_quote ∷ (name ++
     (double_quote ∷ m.flags)))) m.all_digits m.some_digits)
     (number_complete m.digits m.between name m.flags m.all_digits m.some_digits m.few_digits m.blanks_between m.quoted
-    m.flagged) in
+    (are_flags-complete m.flags m.flagged)) in
     ap marker_of m.text ∙ (read ∙ ap (λ v. Some (v, name)) (sym m.value))
 
 -- a name in its quotes, and flags
@@ -247,7 +252,7 @@ marked text number name before blanks m = record {
   value = m.value;
   blanks_between = m.blanks;
   quoted = m.named.quoted;
-  flagged = m.named.flagged;
+  flagged = are_flags-sound m.named.flags m.named.flagged;
 }
 
 hash_sound : (text : List ℕ) (number : ℕ) (name : List ℕ) → Read (marker_number (after_blanks text)) number name

@@ -1,24 +1,31 @@
 -- A lexeme that begins with none of line feed, `/` and `#` has no line feed, and is no marker.
-use Rattle.std.proofs.Common.{◌≡◌, ℕ, zero, suc, ◌+◌, ◌-◌, ◌<◌, ◌≤◌, Bool, true, false, not, ◌&&◌, ◌||◌, ◌==◌, List, [], ◌∷◌, length, take, drop, get_or, None, ◌⊎◌, inl, inr, ⊎_elim, refl, sym, ap, ◌∙◌, subst, arith}
+use Rattle.std.proofs.Common.{◌≡◌, ℕ, zero, suc, ◌+◌, ◌-◌, ◌<◌, ◌≤◌, Bool, true, false, not, ◌&&◌, ◌||◌, ◌==◌, List, []}
+use Rattle.std.proofs.Common.{◌∷◌, length, take, drop, get_or, None, ◌⊎◌, inl, inr, ⊎_elim, refl, sym, ap, ◌∙◌, subst}
+use Rattle.std.proofs.Common.{arith}
 use Rattle.std.specs.Prelude.{slice_index}
 use Rattle.std.specs.List.{list_all, prefix_len}
 use Rattle.std.proofs.lemmas.Bool.{both_ways}
 use Rattle.std.proofs.lemmas.List.{get_or-drop, get_or-take, length-take-le}
 use Rattle.std.proofs.lemmas.List.Folds.{list_all_at}
 use Rattle.std.proofs.lemmas.List.Sums.{prefix_len_passes}
-use Rattle.ck_lexer.specs.Bytes.{backslash, double_quote, is_identifier_byte, is_line_feed, is_line_space, is_no_line_feed, is_nondigit, is_white_space, quote}
+use Rattle.ck_base.specs.Characters.{backslash}
+use Rattle.ck_lexer.specs.Bytes.{double_quote, is_identifier_byte, is_line_feed, is_line_space, is_no_line_feed}
+use Rattle.ck_lexer.specs.Bytes.{is_nondigit, is_white_space, quote}
 use Rattle.ck_lexer.specs.Cuts.{IsLexeme, is_clear}
-use Rattle.ck_lexer.specs.Lexemes.{Beginning, IsLexemeOf, IsTokenOrFault, Other, WhiteSpace, bad, beginning_of, token, unclosed, white_space_size}
+use Rattle.ck_lexer.specs.Lexemes.{Beginning, IsLexemeOf, IsTokenOrFault, Other, WhiteSpace, bad, beginning_of, token}
+use Rattle.ck_lexer.specs.Lexemes.{unclosed, white_space_size}
 use Rattle.ck_lexer.specs.Mapping.{GoesOn, IsMapped, IsNumbered, IsUnmarked}
 use Rattle.ck_lexer.specs.Markers.{hash}
 use Rattle.ck_lexer.specs.PlaceMaps.{NoFeeds}
-use Rattle.ck_lexer.specs.Preprocessing.{begins_number, go_on_after, goes_on, is_closed, is_identifier, is_literal, is_number, is_preprocessing_token, is_punctuator, is_quoted, punctuators}
+use Rattle.ck_lexer.specs.Preprocessing.{begins_number, go_on_after, goes_on, is_closed, is_identifier, is_literal}
+use Rattle.ck_lexer.specs.Preprocessing.{is_number, is_preprocessing_token, is_punctuator, is_quoted, punctuators}
 use Rattle.ck_lexer.specs.Scanning.{marker_of, may_end_line}
 use Rattle.ck_lexer.specs.declared.lexemes.Lexeme.{Lexeme}
 use Rattle.ck_lexer.specs.declared.places.Line.{Line}
 use Rattle.ck_lexer.specs.declared.places.PlaceMap.{PlaceMap}
 use Rattle.ck_lexer.proofs.LinesKept.{Follows, follows_plain, follows_start, mapped_on}
-use Rattle.ck_lexer.proofs.Tests.{among-texts, and-both, and-left, and-right, either-test, eqb-same, from-not, no-test, or-either}
+use Rattle.ck_lexer.proofs.Tests.{among-texts, and-both, and-left, and-right, either-test, eqb-same, from-not, no-test}
+use Rattle.ck_lexer.proofs.Tests.{or-either}
 
 -- what a test that no line feed passes says of a byte
 not_feed : (p : ℕ → Bool) (b : ℕ) → p 10 ≡ false → p b ≡ true → is_no_line_feed b ≡ true

@@ -3,9 +3,12 @@ use Rattle.std.proofs.Common.{◌≡◌, true, false, refl}
 use Rattle.std.specs.Prelude.{codes}
 use Rattle.ck_base.specs.declared.refusals.Unsupported.TheVariants.{U3, U4, U5}
 use Rattle.ck_base.specs.declared.tokens.TokenKind.TheVariants.{Word, Key, Number, Char, Text}
-use Rattle.ck_lexer.specs.Constants.{is_integer_constant, is_floating, is_character_constant, is_string_literal}
+use Rattle.ck_base.specs.IntegerConstants.{is_integer_constant}
+use Rattle.ck_base.specs.CharacterConstants.{is_character_constant, is_string_literal}
+use Rattle.ck_lexer.specs.FloatingConstants.{is_floating}
 use Rattle.ck_lexer.specs.Keywords.{is_keyword, is_reserved_word}
-use Rattle.ck_lexer.specs.Markers.{is_pragma, are_flags}
+use Rattle.ck_lexer.specs.Markers.{AreFlags, is_pragma}
+use Rattle.ck_lexer.proofs.FlagLemmas.{are_flags-complete, are_flags-sound}
 use Rattle.ck_lexer.specs.Lexemes.{lexeme_of}
 use Rattle.ck_lexer.specs.Preprocessing.{is_preprocessing_token, is_punctuator}
 use Rattle.ck_lexer.specs.declared.lexemes.Lexeme.TheVariants.{Token, Fault}
@@ -134,11 +137,11 @@ pragma = refl
 no_pragma : is_pragma (codes "# prag") ≡ false
 no_pragma = refl
 
-flags : are_flags (codes " 1  3 4") ≡ true
-flags = refl
+flags : AreFlags (codes " 1  3 4")
+flags = are_flags-sound (codes " 1  3 4") refl
 
-no_flags : are_flags (codes " 1 3 ") ≡ false
-no_flags = refl
+no_flags : AreFlags (codes " 1 3 ") → ⊥
+no_flags h = let e : false ≡ true = are_flags-complete (codes " 1 3 ") h in cc
 
-joined_flags : are_flags (codes " 13") ≡ false
-joined_flags = refl
+joined_flags : AreFlags (codes " 13") → ⊥
+joined_flags h = let e : false ≡ true = are_flags-complete (codes " 13") h in cc

@@ -1,6 +1,6 @@
 -- The classes of bytes that the lexer knows (C99 5.2.1, 6.4; docs/TOKENS.md, "Bytes"), and how many bytes a file has.
 use Rattle.std.specs.Prelude.{ℕ, Bool, ◌||◌, ◌&&◌, not, ◌==◌}
-use Rattle.ck_base.specs.Characters.{◌∈◌, ◌∈range◌}
+use Rattle.ck_base.specs.Characters.{◌∈◌, ◌∈range◌, is_digit}
 
 -- the most bytes that a file has: 1 MiB
 abbrev pub most_bytes : ℕ
@@ -27,15 +27,6 @@ is_white_space b = b ∈ " " || b ∈range "\t\r"
 abbrev pub is_line_space : ℕ → Bool
 is_line_space b = is_white_space b && is_no_line_feed b
 
-abbrev pub is_digit : ℕ → Bool
-is_digit b = b ∈range "09"
-
-abbrev pub is_octal_digit : ℕ → Bool
-is_octal_digit b = b ∈range "07"
-
-abbrev pub is_hexadecimal_digit : ℕ → Bool
-is_hexadecimal_digit b = b ∈range "09" || b ∈range "af" || b ∈range "AF"
-
 -- an ASCII letter or the underscore
 abbrev pub is_nondigit : ℕ → Bool
 is_nondigit b = b ∈range "az" || b ∈range "AZ" || b ∈ "_"
@@ -51,10 +42,6 @@ quote = 39
 -- "
 abbrev pub double_quote : ℕ
 double_quote = 34
-
--- \
-abbrev pub backslash : ℕ
-backslash = 92
 
 -- a quote of either kind
 abbrev pub is_quote : ℕ → Bool

@@ -1,13 +1,17 @@
 -- The lexeme that a text begins with: white space, a comment, a marker or a pragma, which part tokens; a token, which is the
 -- longest that starts there (C99 6.4); or a fault. docs/TOKENS.md has the rules in words.
-use Rattle.std.specs.Prelude.{◌≡◌, ◌≤◌, ◌<◌, ℕ, ◌+◌, Bool, true, false, ◌&&◌, List, length, take, slice_index, if◌then◌else◌}
+use Rattle.std.specs.Prelude.{◌≡◌, ◌≤◌, ◌<◌, ℕ, ◌+◌, Bool, true, false, ◌&&◌, List, length, take, slice_index}
+use Rattle.std.specs.Prelude.{if◌then◌else◌}
 use Rattle.std.specs.List.{prefix_len}
 use Rattle.ck_base.specs.declared.refusals.Unsupported.{Unsupported}
 use Rattle.ck_base.specs.declared.refusals.Unsupported.TheVariants.{U1, U2, U3, U4, U5, U6}
 use Rattle.ck_base.specs.declared.tokens.TokenKind.TheVariants as KindVariant
 use Rattle.ck_base.specs.Characters.{◌∈◌}
-use Rattle.ck_lexer.specs.Bytes.{double_quote, is_line_feed, is_line_space, is_no_line_feed, is_quote, is_white_space, quote}
-use Rattle.ck_lexer.specs.Constants.{is_integer_constant, is_floating, is_character_constant, is_string_literal}
+use Rattle.ck_lexer.specs.Bytes.{double_quote, is_line_feed, is_line_space, is_no_line_feed, is_quote, is_white_space}
+use Rattle.ck_lexer.specs.Bytes.{quote}
+use Rattle.ck_base.specs.IntegerConstants.{is_integer_constant}
+use Rattle.ck_base.specs.CharacterConstants.{is_character_constant, is_string_literal}
+use Rattle.ck_lexer.specs.FloatingConstants.{is_floating}
 use Rattle.ck_lexer.specs.Keywords.{is_keyword, is_reserved_word}
 use Rattle.ck_lexer.specs.Markers.{IsMarker, is_pragma}
 use Rattle.ck_lexer.specs.Preprocessing.{is_identifier, is_number, is_quoted, is_preprocessing_token}

@@ -8,7 +8,7 @@ pub mod Cuts
 pub mod Lexemes
 pub mod Preprocessing
 pub mod Keywords
-pub mod Constants
+pub mod FloatingConstants
 pub mod Markers
 pub mod Bytes
 -- From memory to plain values

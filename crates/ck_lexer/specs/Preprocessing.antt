@@ -3,8 +3,8 @@
 use Rattle.std.specs.Prelude.{ℕ, Bool, true, false, ◌||◌, ◌&&◌, not, ◌==◌, List, [], ◌∷◌, codes, if◌then◌else◌}
 use Rattle.std.specs.List.{list_all, list_any}
 use Rattle.std.specs.Str.{bytes_eq}
-use Rattle.ck_base.specs.Characters.{◌∈◌}
-use Rattle.ck_lexer.specs.Bytes.{is_digit, is_nondigit, is_identifier_byte, is_line_feed, quote, double_quote, backslash}
+use Rattle.ck_base.specs.Characters.{◌∈◌, is_digit, backslash}
+use Rattle.ck_lexer.specs.Bytes.{is_nondigit, is_identifier_byte, is_line_feed, quote, double_quote}
 
 -- an identifier or a keyword: a letter or an underscore, then letters, digits and underscores (6.4.2.1)
 abbrev pub is_identifier : List ℕ → Bool

@@ -1,20 +1,31 @@
--- How the code goes over the bytes, from the first on. Private contracts alone speak of it; proofs/ join it with the definitions.
-use Rattle.std.specs.Prelude.{ℕ, suc, ◌+◌, ◌-◌, Bool, ◌||◌, ◌&&◌, ◌==◌, nat_le, List, [], ◌∷◌, take, drop, codes, slice_index, Option, Some, None, if◌then◌else◌}
+-- How the code goes over the bytes, from the first on. Private contracts alone speak of it; proofs/ join it with the
+-- definitions.
+use Rattle.std.specs.Prelude.{ℕ, suc, ◌+◌, ◌-◌, Bool, true, ◌||◌, ◌&&◌, not, ◌==◌, nat_le, List, [], ◌∷◌, length, min}
+use Rattle.std.specs.Prelude.{false, take, drop, codes, slice_index, Option, Some, None, if◌then◌else◌}
 use Rattle.std.specs.List.{list_any, prefix_len}
-use Rattle.std.specs.Option.{option_map}
+use Rattle.std.specs.Option.{option_map, unwrap_or}
 use Rattle.ck_base.specs.declared.refusals.Refusal.{Refusal}
 use Rattle.ck_base.specs.declared.tokens.Token.{Token}
-use Rattle.ck_base.specs.Characters.{◌∈◌}
-use Rattle.ck_lexer.specs.Bytes.{backslash, double_quote, quote, is_blank, is_digit, is_line_feed}
-use Rattle.ck_lexer.specs.Constants.{value_of}
-use Rattle.ck_lexer.specs.Markers.{are_flags, hash}
+use Rattle.ck_base.specs.CharacterConstants.{is_simple_escape}
+use Rattle.ck_base.specs.Characters.{◌∈◌, backslash, is_digit, is_octal_digit, is_hexadecimal_digit}
+use Rattle.ck_base.specs.IntegerConstants.{value_of}
+use Rattle.ck_lexer.specs.Bytes.{double_quote, quote, is_blank, is_line_feed}
+use Rattle.ck_lexer.specs.Markers.{is_flag, hash}
 use Rattle.ck_lexer.specs.Lexemes.{character_lexeme, string_lexeme}
 use Rattle.ck_lexer.specs.Preprocessing.{goes_on}
 use Rattle.ck_lexer.specs.Tokens.{AreTokensBetween, IsFirstFault}
 use Rattle.ck_lexer.specs.declared.lexemes.Lexeme.{Lexeme}
+use Rattle.ck_lexer.specs.declared.numbers.Base.{Base}
+use Rattle.ck_lexer.specs.declared.numbers.Base.TheVariants.{Decimal, Octal, Hexadecimal}
 use Rattle.ck_lexer.specs.declared.markers.Marked.{Marked}
 use Rattle.ck_lexer.specs.declared.literals.Step.{Step}
 use Rattle.ck_lexer.specs.declared.literals.Step.TheVariants.{On, Closed, Broken}
+
+-- the base that the code has, as a number
+abbrev pub number_of : Base → ℕ
+number_of Decimal = 10
+number_of Octal = 8
+number_of Hexadecimal = 16
 
 -- how many bytes of a number follow a byte of it
 abbrev pub run_after : ℕ → List ℕ → ℕ
@@ -69,9 +80,52 @@ literal_step mark (b ∷ c ∷ text) =
     else if is_line_feed b then Broken
     else On 1
 
+-- How many bytes an escape takes after its backslash, and how many the first character takes, where it has a value.
+abbrev pub size_if_byte : ℕ → ℕ → Option ℕ
+size_if_byte value size = if nat_le value 255 then Some size else None
+
+abbrev pub octal_length : List ℕ → ℕ
+octal_length text = min 3 (prefix_len is_octal_digit text)
+
+abbrev pub hexadecimal_length : List ℕ → Option ℕ
+hexadecimal_length digits =
+    if prefix_len is_hexadecimal_digit digits == 0 then None
+    else size_if_byte (value_of 16 (take (prefix_len is_hexadecimal_digit digits) digits))
+    (prefix_len is_hexadecimal_digit digits + 1)
+
+abbrev pub escape_length : List ℕ → Option ℕ
+escape_length text =
+    if is_simple_escape (slice_index text 0) then Some 1
+    else if is_octal_digit (slice_index text 0) then size_if_byte (value_of 8 (take (octal_length text) text))
+    (octal_length text)
+    else if slice_index text 0 ∈ "x" then hexadecimal_length (drop 1 text)
+    else None
+
+abbrev pub after_backslash : Option ℕ → Option ℕ
+after_backslash None = None
+after_backslash (Some size) = Some (size + 1)
+
+abbrev pub character_length : List ℕ → Option ℕ
+character_length text =
+    if slice_index text 0 == backslash then after_backslash (escape_length (drop 1 text))
+    else Some 1
+
+abbrev pub is_one_character : List ℕ → Bool
+is_one_character [] = false
+is_one_character (b ∷ text) = unwrap_or (character_length (b ∷ text)) 0 == length (b ∷ text)
+
 -- a lexeme that begins with none of these bytes has no line feed, and is no marker
 abbrev pub may_end_line : ℕ → Bool
 may_end_line b = b ∈ "\n/#"
+
+-- flags, from the first byte on; `blanks` says that blanks were just passed
+abbrev pub flags_from : Bool → List ℕ → Bool
+flags_from blanks [] = not blanks
+flags_from false (b ∷ text) = is_blank b && flags_from true text
+flags_from true (b ∷ text) = (is_blank b && flags_from true text) || (is_flag b && flags_from false text)
+
+abbrev pub are_flags : List ℕ → Bool
+are_flags text = flags_from false text
 
 -- what is left after the blanks that come first
 abbrev pub after_blanks : List ℕ → List ℕ

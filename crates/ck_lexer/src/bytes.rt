@@ -1,6 +1,7 @@
 //! Classes of bytes.
 ghost use Rattle.std.specs.Prelude.{◌≡◌};
 ghost use Rattle.std.specs.List.{prefix_len};
+ghost use Rattle.ck_base.specs.Characters as character;
 ghost use Rattle.ck_lexer.specs.Bytes as spec;
 
 /// A space or a tab.
@@ -25,19 +26,19 @@ pub(crate) fn is_line_space(byte: u8) -> bool
 }
 
 pub(crate) fn is_digit(byte: u8) -> bool
-    ensures { result ≡ spec.is_digit byte }
+    ensures { result ≡ character.is_digit byte }
 {
     byte.is_ascii_digit()
 }
 
 pub(crate) fn is_octal_digit(byte: u8) -> bool
-    ensures { result ≡ spec.is_octal_digit byte }
+    ensures { result ≡ character.is_octal_digit byte }
 {
     matches!(byte, b'0'..=b'7')
 }
 
 pub(crate) fn is_hexadecimal_digit(byte: u8) -> bool
-    ensures { result ≡ spec.is_hexadecimal_digit byte }
+    ensures { result ≡ character.is_hexadecimal_digit byte }
 {
     matches!(byte, b'0'..=b'9' | b'a'..=b'f' | b'A'..=b'F')
 }

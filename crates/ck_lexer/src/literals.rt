@@ -1,6 +1,7 @@
 //! Character constants and string literals.
 ghost use Rattle.std.specs.Prelude.{◌≡◌, ◌+◌, ◌<◌, ◌≤◌, length, drop, slice_index, IfSome};
-ghost use Rattle.ck_lexer.specs.Constants as spec;
+ghost use Rattle.ck_base.specs.CharacterConstants as spec;
+ghost use Rattle.ck_base.specs.IntegerConstants.{value_of as digits_value};
 ghost use Rattle.ck_lexer.specs.Scanning as scan;
 
 use crate::bytes::is_octal_digit;
@@ -59,7 +60,7 @@ fn is_simple_escape(byte: u8) -> bool
 
 /// The size of an escape whose digits have a value up to 255.
 fn size_if_byte(base: Base, digits: &[u8], size: usize) -> Option<usize>
-    ensures { result ≡ spec.if_byte (spec.value_of (spec.number_of base) digits.now) size }
+    ensures { result ≡ scan.size_if_byte (digits_value (scan.number_of base) digits.now) size }
 {
     match value_of(base, digits) {
         Some(0..=255) => Some(size),
@@ -69,7 +70,7 @@ fn size_if_byte(base: Base, digits: &[u8], size: usize) -> Option<usize>
 
 /// How many digits an octal escape has.
 fn octal_length(text: &[u8]) -> usize
-    ensures size { result ≡ spec.octal_size text.now }
+    ensures size { result ≡ scan.octal_length text.now }
     ensures within { result ≤ length text.now }
 {
     digits_length(Base::Octal, text).min(3)
@@ -77,7 +78,7 @@ fn octal_length(text: &[u8]) -> usize
 
 /// The size of a hexadecimal escape, with its `x`, by what follows that.
 fn hexadecimal_size(text: &[u8]) -> Option<usize>
-    ensures size { result ≡ spec.hexadecimal_escape text.now }
+    ensures size { result ≡ scan.hexadecimal_length text.now }
     ensures within { IfSome result (λ size. size ≤ length text.now + 1) }
 {
     let length = digits_length(Base::Hexadecimal, text);
@@ -89,7 +90,7 @@ fn hexadecimal_size(text: &[u8]) -> Option<usize>
 
 /// How many bytes an escape takes after its backslash, where it has a value up to 255.
 fn escape_size(text: &[u8]) -> Option<usize>
-    ensures size { result ≡ spec.escape_size text.now }
+    ensures size { result ≡ scan.escape_length text.now }
     ensures within { IfSome result (λ size. size ≤ length text.now) }
 {
     match text {
@@ -106,7 +107,7 @@ fn escape_size(text: &[u8]) -> Option<usize>
 /// How many bytes the first character takes, where it is one.
 fn character_size(text: &[u8]) -> Option<usize>
     requires { 0 < length text.now }
-    ensures size { result ≡ spec.character_size text.now }
+    ensures size { result ≡ scan.character_length text.now }
     ensures some { IfSome result (λ size. 0 < size) }
     ensures within { IfSome result (λ size. size ≤ length text.now) }
 {
@@ -143,17 +144,23 @@ fn between_quotes(text: &[u8]) -> &[u8]
     }
 }
 
+/// Whether a text is one character.
+fn is_one_character(text: &[u8]) -> bool
+    ensures { result ≡ scan.is_one_character text.now }
+{
+    !text.is_empty() && character_size(text) == Some(text.len())
+}
+
 /// Whether a character constant holds one byte, or one escape of a value up to 255.
-#[tactic(auto, unfolding(crate::specs::Constants::is_character_constant))]
+#[tactic(auto, unfolding(ck_base::specs::CharacterConstants::is_character_constant))]
 pub(crate) fn is_character_constant(text: &[u8]) -> bool
     ensures { result ≡ spec.is_character_constant text.now }
 {
-    let inside = between_quotes(text);
-    !inside.is_empty() && character_size(inside) == Some(inside.len())
+    is_one_character(between_quotes(text))
 }
 
 /// Whether a string literal holds bytes and escapes of values up to 255 alone.
-#[tactic(auto, unfolding(crate::specs::Constants::is_string_literal))]
+#[tactic(auto, unfolding(ck_base::specs::CharacterConstants::is_string_literal))]
 pub(crate) fn is_string_literal(text: &[u8]) -> bool
     ensures { result ≡ spec.is_string_literal text.now }
 {

@@ -2,8 +2,8 @@
 ghost use Rattle.std.specs.Prelude.{◌≡◌, ◌-◌, ◌<◌, ◌≤◌, true, length, take, drop};
 ghost use Rattle.std.specs.List.{list_all};
 ghost use Rattle.std.specs.Option.{option_map};
-ghost use Rattle.ck_lexer.specs.Bytes as byte;
-ghost use Rattle.ck_lexer.specs.Constants as constant;
+ghost use Rattle.ck_base.specs.Characters.{is_digit};
+ghost use Rattle.ck_base.specs.IntegerConstants as constant;
 ghost use Rattle.ck_lexer.specs.Markers as spec;
 ghost use Rattle.ck_lexer.specs.Scanning as scan;
 
@@ -33,7 +33,7 @@ fn is_flag(byte: u8) -> bool
 
 /// Whether these are flags, each after blanks.
 fn are_flags(text: &[u8]) -> bool
-    ensures { result ≡ spec.are_flags text.now }
+    ensures { result ≡ scan.are_flags text.now }
 {
     let mut blanks = false;
     for byte in text {
@@ -80,7 +80,7 @@ fn with_name(number: u32, text: &[u8]) -> Option<Marked<'_>>
 /// The value of 9 decimal digits at most.
 fn small_value(digits: &[u8]) -> u32
     requires few { length digits.now ≤ 9 }
-    requires digits { list_all byte.is_digit digits.now ≡ true }
+    requires digits { list_all is_digit digits.now ≡ true }
     ensures { result ≡ constant.value_of 10 digits.now }
 {
     let mut value = 0;

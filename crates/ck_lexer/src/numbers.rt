@@ -1,10 +1,12 @@
 //! Numbers, and integer constants among them.
-ghost use Rattle.std.specs.Prelude.{◌≡◌, ◌+◌, ◌*◌, ◌<◌, ◌^◌, ◌&&◌, nat_lt, length, drop, slice_index, SomeIff};
+ghost use Rattle.std.specs.Prelude.{◌≡◌, ◌+◌, ◌*◌, ◌<◌, ◌^◌, ◌&&◌, ◌==◌, nat_lt, length, drop, slice_index, SomeIff};
 ghost use Rattle.std.specs.List.{list_any, prefix_len};
 ghost use Rattle.std.specs.Str.{bytes_eq};
-ghost use Rattle.ck_lexer.specs.Constants as spec;
+ghost use Rattle.ck_base.specs.IntegerConstants as spec;
+ghost use Rattle.ck_lexer.specs.FloatingConstants.{is_point, is_decimal_exponent, is_binary_exponent};
+ghost use Rattle.ck_lexer.specs.FloatingConstants.{is_floating as is_floating_constant};
 ghost use Rattle.ck_lexer.specs.Preprocessing.{goes_on as may_follow};
-ghost use Rattle.ck_lexer.specs.Scanning.{run_after};
+ghost use Rattle.ck_lexer.specs.Scanning.{number_of, run_after};
 
 use crate::bytes::{is_digit, is_hexadecimal_digit, is_identifier_byte, is_octal_digit};
 use crate::words::is_among;
@@ -46,8 +48,8 @@ fn digit_value(byte: u8) -> u64
 {
     u64::from(match byte {
         b'0'..=b'9' => byte - b'0',
-        b'a'.. => byte - b'a' + 10,
-        _ => byte.saturating_sub(b'A' - 10),
+        b'a'..=b'f' => byte - b'a' + 10,
+        _ => byte.saturating_sub(b'A') + 10,
     })
 }
 
@@ -56,7 +58,7 @@ impl Base {
 
     /// The base as a number.
     fn number(self) -> u64
-        ensures { result ≡ spec.number_of self }
+        ensures { result ≡ number_of self }
     {
         match self {
             Base::Decimal => 10,
@@ -66,14 +68,14 @@ impl Base {
     }
 
     fn is_decimal(self) -> bool
-        ensures { result ≡ spec.is_decimal self }
+        ensures { result ≡ (number_of self == 10) }
     {
         matches!(self, Base::Decimal)
     }
 
     /// Whether a byte is a digit of this base.
     fn has_digit(self, byte: u8) -> bool
-        ensures { result ≡ spec.is_digit_of self byte }
+        ensures { result ≡ spec.is_digit_of (number_of self) byte }
     {
         match self {
             Base::Decimal => is_digit(byte),
@@ -85,8 +87,8 @@ impl Base {
 
 /// A value with one more digit at its end, where it is less than 2^64.
 fn with_digit(value: u64, base: Base, byte: u8) -> Option<u64>
-    ensures { SomeIff result (value * spec.number_of base + spec.digit_value byte < 2 ^ 64)
-        (value * spec.number_of base + spec.digit_value byte) }
+    ensures { SomeIff result (value * number_of base + spec.digit_value byte < 2 ^ 64)
+        (value * number_of base + spec.digit_value byte) }
 {
     match value.checked_mul(base.number()) {
         Some(product) => product.checked_add(digit_value(byte)),
@@ -96,8 +98,8 @@ fn with_digit(value: u64, base: Base, byte: u8) -> Option<u64>
 
 /// The value of these digits, where it is less than 2^64.
 pub(crate) fn value_of(base: Base, digits: &[u8]) -> Option<u64>
-    ensures { SomeIff result (spec.value_of (spec.number_of base) digits.now < 2 ^ 64)
-        (spec.value_of (spec.number_of base) digits.now) }
+    ensures { SomeIff result (spec.value_of (number_of base) digits.now < 2 ^ 64)
+        (spec.value_of (number_of base) digits.now) }
 {
     let mut value = 0;
     for digit in digits {
@@ -118,7 +120,7 @@ fn is_hexadecimal(text: &[u8]) -> bool
 
 /// The base of an integer constant, by its prefix.
 fn base_of(text: &[u8]) -> Base
-    ensures { result ≡ spec.base_of text.now }
+    ensures { number_of result ≡ spec.base_of text.now }
 {
     if is_hexadecimal(text) {
         Base::Hexadecimal
@@ -131,7 +133,7 @@ fn base_of(text: &[u8]) -> Base
 
 /// A constant without its prefix.
 fn after_prefix(base: Base, text: &[u8]) -> &[u8]
-    ensures { result.now ≡ spec.after_prefix base text.now }
+    ensures { result.now ≡ spec.after_prefix (number_of base) text.now }
 {
     match base {
         Base::Hexadecimal => text.get(2..).unwrap_or_default(),
@@ -141,7 +143,7 @@ fn after_prefix(base: Base, text: &[u8]) -> &[u8]
 
 /// How many digits of this base come first.
 pub(crate) fn digits_length(base: Base, text: &[u8]) -> usize
-    ensures { result ≡ prefix_len (spec.is_digit_of base) text.now }
+    ensures { result ≡ prefix_len (spec.is_digit_of (number_of base)) text.now }
 {
     text.iter()
         .take_while(|byte| base.has_digit(**byte))
@@ -155,35 +157,35 @@ const UNSIGNED_SUFFIXES: [&str; 18] = [
 ];
 
 /// The other suffixes.
-const SIGNED_SUFFIXES: [&str; 5] = ["", "l", "L", "ll", "LL"];
+const OTHER_SUFFIXES: [&str; 5] = ["", "l", "L", "ll", "LL"];
 
 /// Whether this is a suffix of a constant of an unsigned type.
 fn is_unsigned_suffix(text: &[u8]) -> bool
-    ensures { result ≡ list_any (bytes_eq text.now) spec.unsigned_suffixes }
+    ensures { result ≡ spec.is_unsigned_suffix text.now }
 {
     is_among(&UNSIGNED_SUFFIXES, text)
 }
 
 /// Whether this is another suffix.
-fn is_signed_suffix(text: &[u8]) -> bool
-    ensures { result ≡ list_any (bytes_eq text.now) spec.signed_suffixes }
+fn is_other_suffix(text: &[u8]) -> bool
+    ensures { result ≡ list_any (bytes_eq text.now) spec.other_suffixes }
 {
-    is_among(&SIGNED_SUFFIXES, text)
+    is_among(&OTHER_SUFFIXES, text)
 }
 
 /// Whether a type of 64 bits at most holds a constant of this base, value and suffix.
 fn has_type(base: Base, value: u64, suffix: &[u8]) -> bool
-    ensures { result ≡ nat_lt value (spec.value_limit base suffix.now) }
+    ensures { result ≡ nat_lt value (spec.value_limit (number_of base) suffix.now) }
 {
-    value < 1 << 63 || !(base.is_decimal() && is_signed_suffix(suffix))
+    value < 1 << 63 || !base.is_decimal() || is_unsigned_suffix(suffix)
 }
 
 /// Whether these digits with this suffix are a constant of a type that exists within 64 bits.
 fn is_integer_of(base: Base, digits: &[u8], suffix: &[u8]) -> bool
     ensures { result ≡ (nat_lt 0 (length digits.now) && spec.is_suffix suffix.now && nat_lt
-        (spec.value_of (spec.number_of base) digits.now) (spec.value_limit base suffix.now)) }
+        (spec.value_of (number_of base) digits.now) (spec.value_limit (number_of base) suffix.now)) }
 {
-    if digits.is_empty() || !(is_unsigned_suffix(suffix) || is_signed_suffix(suffix)) {
+    if digits.is_empty() || !(is_unsigned_suffix(suffix) || is_other_suffix(suffix)) {
         return false;
     }
     match value_of(base, digits) {
@@ -193,7 +195,7 @@ fn is_integer_of(base: Base, digits: &[u8], suffix: &[u8]) -> bool
 }
 
 /// Whether a number is an integer constant of a type that exists within 64 bits.
-#[tactic(auto, unfolding(crate::specs::Constants::is_integer_constant))]
+#[tactic(auto, unfolding(ck_base::specs::IntegerConstants::is_integer_constant))]
 pub(crate) fn is_integer_constant(text: &[u8]) -> bool
     ensures { result ≡ spec.is_integer_constant text.now }
 {
@@ -205,29 +207,29 @@ pub(crate) fn is_integer_constant(text: &[u8]) -> bool
 
 /// Whether there is a point in a number.
 fn has_point(text: &[u8]) -> bool
-    ensures { result ≡ list_any spec.is_point text.now }
+    ensures { result ≡ list_any is_point text.now }
 {
     text.iter().any(|byte| *byte == b'.')
 }
 
 /// Whether there is an exponent of base 10 in a number.
 fn has_decimal_exponent(text: &[u8]) -> bool
-    ensures { result ≡ list_any spec.is_decimal_exponent text.now }
+    ensures { result ≡ list_any is_decimal_exponent text.now }
 {
     text.iter().any(|byte| matches!(*byte, b'e' | b'E'))
 }
 
 /// Whether there is an exponent of base 2 in a number.
 fn has_binary_exponent(text: &[u8]) -> bool
-    ensures { result ≡ list_any spec.is_binary_exponent text.now }
+    ensures { result ≡ list_any is_binary_exponent text.now }
 {
     text.iter().any(|byte| matches!(*byte, b'p' | b'P'))
 }
 
 /// Whether a number is meant as a floating constant: it has a point, or an exponent of its base.
-#[tactic(auto, unfolding(crate::specs::Constants::is_floating))]
+#[tactic(auto, unfolding(crate::specs::FloatingConstants::is_floating))]
 pub(crate) fn is_floating(text: &[u8]) -> bool
-    ensures { result ≡ spec.is_floating text.now }
+    ensures { result ≡ is_floating_constant text.now }
 {
     if has_point(text) {
         true

@@ -246,8 +246,7 @@ fn name_at(names: &[Vec<u8>], index: usize) -> &[u8]
 /// The name, line and column of the byte at an offset, or of the file's end, by a binary search among
 /// the file's lines (docs/TOKENS.md, "Places").
 ///
-/// At the file's end the offset is the file's length. A greater one has the place that the last line would
-/// give it.
+/// The offset is at most the file's length, and there it is the file's end; nothing is said of a greater one.
 pub fn place(map: &PlaceMap, offset: u32) -> PlaceName<'_>
     ensures { (name bytes : List ℕ) → IsPlaceMapOf name bytes map.now → offset ≤ length bytes
         → IsPlace name bytes offset (place_of result) }

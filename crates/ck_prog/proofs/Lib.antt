@@ -1,2 +1,10 @@
+-- the theorems
+mod SenseOfTyped
+mod TreesDeclare
+mod Growth
+mod Scopes
+-- worked texts
 mod Texts
+mod Walks
 mod Worked
+mod WorkedTrees

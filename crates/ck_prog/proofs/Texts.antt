@@ -20,8 +20,11 @@ use Rattle.ck_prog.specs.Declaring.{alone, after_first_specifiers, after_declare
 use Rattle.ck_prog.specs.Linking.{StorageClass, storage_class}
 use Rattle.ck_prog.specs.Senses.{Sense, no_type}
 use Rattle.ck_prog.specs.TypeClasses.{Qualified}
+use Rattle.ck_prog.specs.TypedExpressions.{typed_expression}
+use Rattle.ck_prog.specs.TypedTrees.{Typed}
 use Rattle.ck_prog.specs.Typing.{sense, after_specifiers, after_params}
 use Rattle.ck_prog.specs.declared.names.Defining.TheVariants.{Defines}
+use Rattle.ck_prog.specs.declared.operators.Role.TheVariants.{Value}
 use Prim.Native.String.{String}
 
 -- the kind of the token that a word is, by its first byte
@@ -91,7 +94,8 @@ after_externals p (x ∷ xs) = after_externals (after_external p x) xs
 -- the place after one more file, which has this number
 abbrev pub after_file : List Entry → ℕ → String → Place
 after_file declared file line =
-    after_externals (record { declared = declared; file = file; bytes = codes line; scope = [] }) (externals_of file line)
+    after_externals (record { declared = declared; file = file; bytes = codes line; scope = [] })
+    (externals_of file line)
 
 abbrev pub after_text : String → Place
 after_text line = after_file [] 0 line
@@ -115,3 +119,11 @@ sense_with typedefs line expression =
 
 abbrev pub sense_in : String → String → Sense
 sense_in line expression = sense_with [] line expression
+
+abbrev typed_of_read : Place → Option (Expr × List Token) → Option Typed
+typed_of_read p None = None
+typed_of_read p (Some e) = Some (typed_expression p Value e.0)
+
+-- the typed tree of an expression after a file
+abbrev pub typed_in : String → String → Option Typed
+typed_in line expression = typed_of_read (in_text (after_text line) expression) (expression_of [] expression)

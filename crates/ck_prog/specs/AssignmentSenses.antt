@@ -58,7 +58,7 @@ abbrev pub assignment_sense : Place → Assigning → Sense → Sense → Sense
 assignment_sense p op a b =
     from_types a.type (value_type b) (λ t u. value_if (is_modifiable p a t && takes_by p op t b.null u) t)
 
--- 6.5.15 ---------------------------------------------------------------------------------------------------------------
+-- 6.5.15 --------------------------------------------------------------------------------------------------------------
 
 -- pointers to compatible types, or one to `void`; what they point to has the qualifiers of both
 abbrev pub common_pointer : CType → CType → Option CType

@@ -1,4 +1,5 @@
--- What operators make of integer constant expressions (C99 6.6). Each operand has to be one, also where it isn't evaluated.
+-- What operators make of integer constant expressions (C99 6.6). Each operand has to be one, also where it isn't
+-- evaluated.
 use Rattle.std.specs.Prelude.{not, Result, Ok, Err, if◌then◌else◌, ℤ, pos}
 use Rattle.ck_types.specs.Arithmetic.{binary, unary, one_if}
 use Rattle.ck_types.specs.IntegerTypes.{converted}

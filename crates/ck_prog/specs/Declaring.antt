@@ -1,15 +1,15 @@
 -- What the declarators of a declaration and of a function definition declare (C99 6.7, 6.9.1).
-use Rattle.std.specs.Prelude.{ℕ, Bool, true, false, List, [], Option, Some, None, if◌then◌else◌}
+use Rattle.std.specs.Prelude.{ℕ, Bool, true, false, List, [], ◌∷◌, Option, Some, None, if◌then◌else◌}
 use Rattle.ck_base.specs.declared.tokens.Token.{Token}
 use Rattle.ck_grammar.specs.Trees.{Specifiers, Declarator, Dims, Params, Abstract, Named, Nested, NoDims, Function}
 use Rattle.ck_grammar.specs.Trees.{NoParams}
 use Rattle.ck_prog.specs.BaseTypes.{base_type}
-use Rattle.ck_prog.specs.Declarations.{Meaning, FunctionNamed, Place, text, declaring, inside}
-use Rattle.ck_prog.specs.Derivations.{made}
-use Rattle.ck_prog.specs.Linking.{StorageClass, TypedefClass, storage_class, declared_as, function_linkage}
+use Rattle.ck_prog.specs.Declarations.{Place, text, declaring, inside}
+use Rattle.ck_prog.specs.Derivations.{Derivation, FunctionOf, made}
+use Rattle.ck_prog.specs.Linking.{StorageClass, TypedefClass, storage_class, declared_as}
 use Rattle.ck_prog.specs.Linking.{function_declared}
 use Rattle.ck_prog.specs.Tags.{Around, nothing_around}
-use Rattle.ck_prog.specs.TypeClasses.{Qualified}
+use Rattle.ck_prog.specs.TypeClasses.{Qualified, is_function}
 use Rattle.ck_prog.specs.Typing.{derivations, after_specifiers, after_declarator, after_params, name_of}
 use Rattle.ck_prog.specs.declared.names.Defining.TheVariants.{Defines}
 
@@ -29,26 +29,31 @@ around_by p class d = nothing_around
 abbrev pub after_first_specifiers : Place → Specifiers → Declarator → Place
 after_first_specifiers p s d = after_specifiers p (around_by p (storage_class p s) d) s
 
-abbrev pub with_declared : Place → StorageClass → Bool → Option Token → Option Qualified → Place
-with_declared p class initialised None t = p
-with_declared p class initialised (Some name) t =
-    declaring p (text p name) name (declared_as p class initialised (text p name) t)
+-- a declarator declares a function: by its type, or where that is missing by what it says of its name first
+abbrev pub declares_function : List Derivation → Option Qualified → Bool
+declares_function ds (Some t) = is_function t.type
+declares_function (FunctionOf ps ∷ ds) None = true
+declares_function ds None = false
+
+abbrev pub with_declared : Place → StorageClass → Bool → Bool → Option Token → Option Qualified → Place
+with_declared p class is_function initialised None t = p
+with_declared p class is_function initialised (Some name) t =
+    declaring p (text p name) name (declared_as p class is_function initialised (text p name) t)
 
 -- 6.2.1: the place after a declarator, whose name is declared there, before an initialiser or not
 abbrev pub after_declared : Place → StorageClass → Bool → Option Qualified → Declarator → Place
 after_declared p class initialised base d =
     let q = after_declarator p d in
-    with_declared q class initialised (name_of d) (made q (derivations p d) base)
+    let ds = derivations p d in
+    let t = made q ds base in
+    with_declared q class (declares_function ds t) initialised (name_of d) t
 
--- functions that are defined (6.9.1) -----------------------------------------------------------------------------------
-
-abbrev pub function_defined : Place → StorageClass → List ℕ → Option Qualified → Meaning
-function_defined p class name None = FunctionNamed None (function_linkage p class name) Defines
-function_defined p class name (Some t) = function_declared p Defines (function_linkage p class name) name t.type
+-- functions that are defined (6.9.1) ----------------------------------------------------------------------------------
 
 abbrev pub with_defined : Place → StorageClass → Option Token → Option Qualified → Place
 with_defined p class None t = p
-with_defined p class (Some name) t = declaring p (text p name) name (function_defined p class (text p name) t)
+with_defined p class (Some name) t =
+    declaring p (text p name) name (function_declared p class Defines (text p name) t)
 
 -- the place after the name of the function that is defined, before its parameters are declared again
 abbrev pub after_function_name : Place → Specifiers → Declarator → Place

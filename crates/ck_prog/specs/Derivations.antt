@@ -1,5 +1,5 @@
--- What a declarator makes of the type before it: pointers, arrays and functions (C99 6.7.5). Of a missing type nothing is
--- made.
+-- What a declarator makes of the type before it: pointers, arrays and functions (C99 6.7.5). Of a missing type nothing
+-- is made.
 use Rattle.std.specs.Prelude.{ℕ, Bool, false, ◌&&◌, ◌||◌, not, nat_le, List, [], ◌∷◌, Option, Some, None}
 use Rattle.std.specs.Prelude.{if◌then◌else◌, pos}
 use Rattle.ck_base.specs.declared.tokens.Token.{Token}
@@ -11,13 +11,13 @@ use Rattle.ck_prog.specs.Sizes.{layout, is_complete, is_small, most_elements}
 use Rattle.ck_prog.specs.Tags.{adjusted}
 use Rattle.ck_prog.specs.TypeClasses.{Qualified, plain, unqualified, is_array, is_function, is_void}
 
--- 6.7.5.1 --------------------------------------------------------------------------------------------------------------
+-- 6.7.5.1 -------------------------------------------------------------------------------------------------------------
 
 abbrev pub pointer_to : Qualifiers → Option Qualified → Option Qualified
 pointer_to q None = None
 pointer_to q (Some t) = Some (record { qualifiers = q; type = Pointer t.qualifiers t.type })
 
--- 6.7.5.2 --------------------------------------------------------------------------------------------------------------
+-- 6.7.5.2 -------------------------------------------------------------------------------------------------------------
 
 -- how many elements a size gives: a constant from 1 to the most
 abbrev pub element_count : Constancy → Option ℕ
@@ -39,9 +39,10 @@ abbrev pub counted_array : Place → Option ℕ → Option Qualified → Option 
 counted_array p None t = None
 counted_array p (Some n) t = if_small_type p (array_of p (Some n) t)
 
--- 6.7.5.3 --------------------------------------------------------------------------------------------------------------
+-- 6.7.5.3 -------------------------------------------------------------------------------------------------------------
 
--- the types of parameters, without qualifiers of their own, and whether `...` is at their end; none where one is missing
+-- the types of parameters, without qualifiers of their own, and whether `...` is at their end; none where one is
+-- missing
 abbrev pub Signature : Type 0
 Signature = Option (Parameters × Bool)
 
@@ -75,7 +76,7 @@ function_of (Some ps) (Some t) =
     if is_array t.type || is_function t.type then None
     else Some (unqualified (Function t.qualifiers t.type ps.0 ps.1))
 
--- declarators ----------------------------------------------------------------------------------------------------------
+-- declarators ---------------------------------------------------------------------------------------------------------
 
 -- what a part of a declarator says of the name
 pub data Derivation : Type 0 where

@@ -1,6 +1,9 @@
--- What is promised: typed trees
+-- What is promised
+pub mod Laws
+pub mod Growing
 pub mod TypedTrees
 pub mod TypedExpressions
+pub mod Acts
 -- What it rests on: declarations, and what a use means
 pub mod TypeClasses
 pub mod Declarations

@@ -10,7 +10,7 @@ use Rattle.ck_grammar.specs.Words.{Word, is_text, word_of}
 use Rattle.ck_types.specs.Types.{CType, compatible, composite}
 use Rattle.ck_prog.specs.Declarations.{Meaning, Variable, FunctionNamed, TypeNamed, Entry, Place, is_file_scope, meant}
 use Rattle.ck_prog.specs.Declarations.{meaning_of}
-use Rattle.ck_prog.specs.TypeClasses.{Qualified, is_function}
+use Rattle.ck_prog.specs.TypeClasses.{Qualified}
 use Rattle.ck_prog.specs.declared.names.Linkage.{Linkage}
 use Rattle.ck_prog.specs.declared.names.Linkage.TheVariants.{NoLinkage, Internal, External}
 use Rattle.ck_prog.specs.declared.names.Defining.{Defining}
@@ -42,7 +42,7 @@ storage_class p s =
     else if has_word p "register" s then RegisterClass
     else NoClass
 
--- 6.2.2 ----------------------------------------------------------------------------------------------------------------
+-- 6.2.2 ---------------------------------------------------------------------------------------------------------------
 
 abbrev pub is_linked : Linkage → Bool
 is_linked NoLinkage = false
@@ -92,7 +92,7 @@ defining p class true = Defines
 defining p ExternClass false = Declares
 defining p class false = if is_file_scope p.scope then Tentative else Defines
 
--- 6.2.7 ----------------------------------------------------------------------------------------------------------------
+-- 6.2.7 ---------------------------------------------------------------------------------------------------------------
 
 abbrev pub unqualified_type : Option Qualified → Option CType
 unqualified_type None = None
@@ -138,23 +138,24 @@ joined_over e [] = None
 joined_over e (d ∷ ds) =
     if are_one e d then joined_option (joined_over e ds) (type_of d.meaning) else joined_over e ds
 
--- declarations ---------------------------------------------------------------------------------------------------------
+-- declarations --------------------------------------------------------------------------------------------------------
 
-abbrev pub function_declared : Place → Defining → Linkage → List ℕ → CType → Meaning
-function_declared p d l name t = FunctionNamed (Some (type_joined p l name t)) l d
+abbrev pub function_type : Place → Linkage → List ℕ → Option Qualified → Option CType
+function_type p l name None = None
+function_type p l name (Some t) = Some (type_joined p l name t.type)
 
-abbrev pub object_declared : Place → StorageClass → Bool → Linkage → List ℕ → Option Qualified → Meaning
-object_declared p class initialised l name t =
+abbrev pub function_declared : Place → StorageClass → Defining → List ℕ → Option Qualified → Meaning
+function_declared p class d name t =
+    let l = function_linkage p class name in FunctionNamed (function_type p l name t) l d
+
+abbrev pub object_declared : Place → StorageClass → Bool → List ℕ → Option Qualified → Meaning
+object_declared p class initialised name t =
+    let l = object_linkage p class name in
     Variable (object_type p l name t) l (defining p class initialised) (storage class l)
 
-abbrev pub thing_declared : Place → StorageClass → Bool → List ℕ → Option Qualified → Meaning
-thing_declared p class initialised name None =
-    object_declared p class initialised (object_linkage p class name) name None
-thing_declared p class initialised name (Some t) =
-    if is_function t.type then function_declared p Declares (function_linkage p class name) name t.type
-    else object_declared p class initialised (object_linkage p class name) name (Some t)
-
--- 6.7: what a declarator with this type declares, after specifiers with this storage class, before an initialiser or not
-abbrev pub declared_as : Place → StorageClass → Bool → List ℕ → Option Qualified → Meaning
-declared_as p TypedefClass initialised name t = TypeNamed t
-declared_as p class initialised name t = thing_declared p class initialised name t
+-- 6.7: what a declarator with this type declares, a function or not, after specifiers with this storage class, before
+-- an initialiser or not
+abbrev pub declared_as : Place → StorageClass → Bool → Bool → List ℕ → Option Qualified → Meaning
+declared_as p TypedefClass is_function initialised name t = TypeNamed t
+declared_as p class true initialised name t = function_declared p class Declares name t
+declared_as p class false initialised name t = object_declared p class initialised name t

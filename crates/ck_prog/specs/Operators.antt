@@ -9,7 +9,8 @@ use Rattle.ck_types.specs.declared.operators.UnaryOperator.TheVariants.{Plus, Mi
 use Rattle.ck_prog.specs.declared.operators.Operator.{Operator}
 use Rattle.ck_prog.specs.declared.operators.Operator.TheVariants.{Binary, And, Or, Comma}
 use Rattle.ck_prog.specs.declared.operators.Prefix.{Prefix}
-use Rattle.ck_prog.specs.declared.operators.Prefix.TheVariants.{Unary, Increment, Decrement, Address, Dereference, SizeOf}
+use Rattle.ck_prog.specs.declared.operators.Prefix.TheVariants.{Unary, Increment, Decrement, Address, Dereference}
+use Rattle.ck_prog.specs.declared.operators.Prefix.TheVariants.{SizeOf}
 use Rattle.ck_prog.specs.declared.operators.Assigning.{Assigning}
 use Rattle.ck_prog.specs.declared.operators.Assigning.TheVariants.{Plain, With}
 

@@ -69,8 +69,8 @@ abbrev pub is_own_address : Option CType → Bool
 is_own_address None = false
 is_own_address (Some t) = is_array t || is_function t
 
--- 6.6: its value is an address constant or a number: the value of an array or a function is its address, that of another
--- object is what is in it
+-- 6.6: its value is an address constant or a number: the value of an array or a function is its address, that of
+-- another object is what is in it
 abbrev pub is_fixed_value : Sense → Bool
 is_fixed_value s = s.fixed && (not s.lvalue || is_own_address s.type)
 

@@ -6,7 +6,8 @@ use Rattle.std.specs.Option.{is_some}
 use Rattle.std.specs.Str.{bytes_eq}
 use Rattle.ck_types.specs.IntegerTypes.{size}
 use Rattle.ck_types.specs.Types.{StructIdentity, CType, Void, Integer, Pointer, Array, Struct, Function, same_struct}
-use Rattle.ck_prog.specs.Declarations.{Layout, MemberOf, Meaning, Member, Completed, Place, latest, meaning_of}
+use Rattle.ck_prog.specs.Declarations.{Layout, MemberOf, Meaning, StructTag, Member, Completed, Place}
+use Rattle.ck_prog.specs.Declarations.{latest, meaning_of}
 use Rattle.ck_prog.specs.TypeClasses.{Qualified}
 
 -- an array has at most so many elements, and an object of a type at most so many bytes
@@ -34,7 +35,7 @@ abbrev pub times : Option ℕ → Option Layout → Option Layout
 times (Some n) (Some l) = Some (record { size = n * l.size; alignment = l.alignment })
 times _ _ = None
 
--- structs --------------------------------------------------------------------------------------------------------------
+-- structs -------------------------------------------------------------------------------------------------------------
 
 abbrev pub completes : StructIdentity → Meaning → Bool
 completes s (Completed t layout constant) = same_struct s t
@@ -52,7 +53,7 @@ abbrev pub completed_constant : Option Meaning → Bool
 completed_constant (Some (Completed s layout constant)) = constant
 completed_constant _ = false
 
--- types ----------------------------------------------------------------------------------------------------------------
+-- types ---------------------------------------------------------------------------------------------------------------
 
 abbrev pub layout : Place → CType → Option Layout
 layout p Void = None
@@ -72,16 +73,23 @@ has_constant p (Array q t n) = q.constant || has_constant p t
 has_constant p (Struct s) = completed_constant (completion p s)
 has_constant p _ = false
 
--- members --------------------------------------------------------------------------------------------------------------
+-- members -------------------------------------------------------------------------------------------------------------
 
 abbrev pub is_member : StructIdentity → Meaning → Bool
 is_member s (Member m) = same_struct s m.of
 is_member s _ = false
 
--- the member so far last, and the member of a name
-abbrev pub last_member : Place → StructIdentity → Option Meaning
-last_member p s = meaning_of (latest (λ e. is_member s e.meaning && e.file == p.file) p.declared)
+-- a tag stands before the members of its body
+abbrev pub is_in_body : StructIdentity → Meaning → Bool
+is_in_body s (StructTag t) = same_struct s t
+is_in_body s m = is_member s m
 
+-- the last member of the body that is open, or its tag. The parameters of a function that is defined are declared
+-- twice, and with them the bodies in them.
+abbrev pub last_in_body : Place → StructIdentity → Option Meaning
+last_in_body p s = meaning_of (latest (λ e. is_in_body s e.meaning && e.file == p.file) p.declared)
+
+-- the member of a name
 abbrev pub member_named : Place → StructIdentity → List ℕ → Option Meaning
 member_named p s name =
     meaning_of (latest (λ e. is_member s e.meaning && e.file == p.file && bytes_eq e.name name) p.declared)
@@ -90,11 +98,10 @@ member_named p s name =
 abbrev pub aligned : ℕ → ℕ → ℕ
 aligned n alignment = (n + (alignment - 1)) / alignment * alignment
 
--- bytes before a first member, and before one after another
+-- the struct before a next member
 abbrev pub front_before : Option Meaning → Option Layout
-front_before None = Some (record { size = 0; alignment = 1 })
 front_before (Some (Member m)) = m.front
-front_before _ = None
+front_before _ = Some (record { size = 0; alignment = 1 })
 
 abbrev pub constant_before : Option Meaning → Bool
 constant_before (Some (Member m)) = m.constant
@@ -120,7 +127,7 @@ is_constant_member p (Some t) = t.qualifiers.constant || has_constant p t.type
 -- a member of a type after those so far
 abbrev pub next_member : Place → StructIdentity → Option Qualified → MemberOf
 next_member p s t =
-    let before = last_member p s in
+    let before = last_in_body p s in
     record {
       of = s;
       type = t;
@@ -135,4 +142,4 @@ padded None = None
 padded (Some front) = Some (record front { size = aligned front.size front.alignment })
 
 abbrev pub completed : Place → StructIdentity → Meaning
-completed p s = let last = last_member p s in Completed s (padded (front_before last)) (constant_before last)
+completed p s = let last = last_in_body p s in Completed s (padded (front_before last)) (constant_before last)

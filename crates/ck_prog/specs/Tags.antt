@@ -3,18 +3,20 @@ use Rattle.std.specs.Prelude.{ℕ, Bool, true, false, ◌&&◌, not, List, [], �
 use Rattle.std.specs.Option.{is_some}
 use lib.IntN.{◌+ℤ◌}
 use Rattle.ck_base.specs.declared.tokens.Token.{Token}
+use Rattle.ck_grammar.specs.Trees.{Specifiers}
 use Rattle.ck_types.specs.IntegerTypes.{represents}
 use Rattle.ck_types.specs.Types.{StructIdentity, ByTag, ByTypedef, ByPlace, Struct}
 use Rattle.ck_types.specs.declared.integer_types.IntegerType.TheVariants.{Int}
 use Rattle.ck_prog.specs.Declarations.{Meaning, Variable, StructTag, EnumTag, Enumerator, Member, Place, text}
 use Rattle.ck_prog.specs.Declarations.{is_written, is_file_scope, meant_tag, tag_of_scope, declaring, declaring_name}
 use Rattle.ck_prog.specs.Declarations.{meaning_of}
+use Rattle.ck_prog.specs.Linking.{storage, storage_class}
 use Rattle.ck_prog.specs.Senses.{Constancy, Valueless, Known}
 use Rattle.ck_prog.specs.Sizes.{completed, next_member}
 use Rattle.ck_prog.specs.TypeClasses.{Qualified, unqualified, int, as_value, is_void}
 use Rattle.ck_prog.specs.declared.names.Linkage.TheVariants.{NoLinkage}
 use Rattle.ck_prog.specs.declared.names.Defining.{Defining}
-use Rattle.ck_prog.specs.declared.names.Storage.TheVariants.{Automatic}
+use Rattle.ck_prog.specs.declared.names.Storage.{Storage}
 
 -- What is around specifiers that matters to a tag in them: whether they are a whole declaration, as in `struct s;`
 -- (6.7.2.3), and the first typedef name that their declaration declares.
@@ -25,7 +27,7 @@ pub record Around : Type 0 where
 abbrev pub nothing_around : Around
 nothing_around = record { alone = false; typedef = None }
 
--- 6.7.2.3 --------------------------------------------------------------------------------------------------------------
+-- 6.7.2.3 -------------------------------------------------------------------------------------------------------------
 
 -- a struct without a tag is declared under a text that is spelled like no tag, with the place of `struct`
 abbrev pub tag_name : Place → Token → Option Token → List ℕ
@@ -60,10 +62,13 @@ with_struct p s keyword tag = declaring p (tag_name p keyword tag) (tag_token ke
 
 -- a `struct` and a tag without a body declare it, where it isn't in sight, or they are a whole declaration and it isn't
 -- of this scope
+abbrev pub is_new_tag : Place → Around → Token → Bool
+is_new_tag p around tag =
+    not (is_some (if around.alone then tag_of_scope p (text p tag) else meant_tag p (text p tag)))
+
 abbrev pub with_mention : Place → Around → Token → Token → Place
 with_mention p around keyword tag =
-    let known = if around.alone then tag_of_scope p (text p tag) else meant_tag p (text p tag) in
-    if is_written p keyword "struct" && not (is_some known)
+    if is_written p keyword "struct" && is_new_tag p around tag
     then with_struct p (new_struct p around keyword (Some tag)) keyword (Some tag) else p
 
 -- the type that `struct` or `enum` and a tag name; none where the tag is of the other kind or isn't in sight
@@ -75,7 +80,7 @@ type_of_tag _ _ = None
 abbrev pub type_named_by_tag : Place → Token → List ℕ → Option Qualified
 type_named_by_tag p keyword name = type_of_tag (is_written p keyword "struct") (meaning_of (meant_tag p name))
 
--- 6.7.2.1 --------------------------------------------------------------------------------------------------------------
+-- 6.7.2.1 -------------------------------------------------------------------------------------------------------------
 
 abbrev pub with_member : Place → StructIdentity → Option Token → Option Qualified → Place
 with_member p s name t = declaring_name p name (Member (next_member p s t))
@@ -84,7 +89,7 @@ with_member p s name t = declaring_name p name (Member (next_member p s t))
 abbrev pub with_completion : Place → StructIdentity → Token → Option Token → Place
 with_completion p s keyword tag = declaring p (tag_name p keyword tag) (tag_token keyword tag) (completed p s)
 
--- 6.7.2.2 --------------------------------------------------------------------------------------------------------------
+-- 6.7.2.2 -------------------------------------------------------------------------------------------------------------
 
 abbrev pub with_enum : Place → Option Token → Place
 with_enum p tag = declaring_name p tag EnumTag
@@ -105,7 +110,7 @@ first_value = Known (pos 0)
 abbrev pub with_enumerator : Place → Token → Constancy → Place
 with_enumerator p name v = declaring p (text p name) name (Enumerator (enumerator_value v))
 
--- 6.7.5.3 --------------------------------------------------------------------------------------------------------------
+-- 6.7.5.3 -------------------------------------------------------------------------------------------------------------
 
 -- a parameter of an array or function type is a pointer; none is `void`
 abbrev pub as_parameter : Qualified → Qualified
@@ -115,5 +120,12 @@ abbrev pub adjusted : Option Qualified → Option Qualified
 adjusted None = None
 adjusted (Some t) = if is_void t.type then None else Some (as_parameter t)
 
-abbrev pub with_parameter : Place → Defining → Option Token → Option Qualified → Place
-with_parameter p d name t = declaring_name p name (Variable (adjusted t) NoLinkage d Automatic)
+-- 6.7.5.3: the only storage class of a parameter is `register`
+abbrev pub parameter_storage : Place → Specifiers → Storage
+parameter_storage p s = storage (storage_class p s) NoLinkage
+
+abbrev pub parameter_meaning : Place → Defining → Specifiers → Option Qualified → Meaning
+parameter_meaning p d s t = Variable (adjusted t) NoLinkage d (parameter_storage p s)
+
+abbrev pub with_parameter : Place → Defining → Specifiers → Option Token → Option Qualified → Place
+with_parameter p d s name t = declaring_name p name (parameter_meaning p d s t)

@@ -17,19 +17,21 @@ use Rattle.ck_prog.specs.BaseTypes.{base_type}
 use Rattle.ck_prog.specs.BinarySenses.{binary_sense}
 use Rattle.ck_prog.specs.Declarations.{Entry, Meaning, FunctionNamed, Layout, Place, text, is_written, meant}
 use Rattle.ck_prog.specs.Declarations.{meant_tag, inside, outside}
-use Rattle.ck_prog.specs.Derivations.{Derivation, made, array_of, element_count, is_impossible, pointers, is_no_parameter}
+use Rattle.ck_prog.specs.Derivations.{Derivation, made, array_of, element_count, is_impossible, pointers}
+use Rattle.ck_prog.specs.Derivations.{is_no_parameter}
 use Rattle.ck_prog.specs.Linking.{unqualified_type}
 use Rattle.ck_prog.specs.Operators.{operator, prefix, assigning}
 use Rattle.ck_prog.specs.PostfixSenses.{element, result, member, access}
 use Rattle.ck_prog.specs.Senses.{Sense, Constancy}
-use Rattle.ck_prog.specs.Sizes.{is_large, type_layout, padded, front_before, last_member}
+use Rattle.ck_prog.specs.Sizes.{is_large, type_layout, padded, front_before, last_in_body}
 use Rattle.ck_prog.specs.Tags.{as_parameter}
 use Rattle.ck_prog.specs.Tags.{Around, nothing_around, struct_of_body, with_struct, with_mention, with_member}
 use Rattle.ck_prog.specs.Tags.{with_completion, with_enum, with_enumerator, first_value, next_value, with_parameter}
 use Rattle.ck_prog.specs.TypeClasses.{Qualified}
 use Rattle.ck_prog.specs.TypedTrees as typed
 use Rattle.ck_prog.specs.TypedTrees.{Typed, Links, Arguments, Steps, TypeParts, Facts, Owner, OfTypeName, OfMember}
-use Rattle.ck_prog.specs.TypedTrees.{OfParameter, DeclaratorFacts, NoLinks, Link, NoArguments, Argument, NoSteps, Access}
+use Rattle.ck_prog.specs.TypedTrees.{OfParameter, DeclaratorFacts, NoLinks, Link, NoArguments, Argument, NoSteps}
+use Rattle.ck_prog.specs.TypedTrees.{Access}
 use Rattle.ck_prog.specs.TypedTrees.{NoParts, Mention, StructBody, EnumeratorValue, Expression, ArraySize}
 use Rattle.ck_prog.specs.TypedTrees.{WholeDeclarator, facts, argument_facts}
 use Rattle.ck_prog.specs.Typing.{name_sense, constant_sense, strings_sense, is_dereference, name_of, sense, derivations}
@@ -44,7 +46,7 @@ use Rattle.ck_prog.specs.declared.operators.Prefix.TheVariants.{SizeOf}
 use Rattle.ck_prog.specs.declared.operators.Role.{Role}
 use Rattle.ck_prog.specs.declared.operators.Role.TheVariants.{Called, Whole, Value}
 
--- where an expression begins -------------------------------------------------------------------------------------------
+-- where an expression begins ------------------------------------------------------------------------------------------
 
 abbrev pub first_token : Expr → Token
 first_token (Name t) = t
@@ -86,7 +88,7 @@ abbrev pub or_token : Token → Option Token → Token
 or_token t None = t
 or_token t (Some u) = u
 
--- roles ----------------------------------------------------------------------------------------------------------------
+-- roles ---------------------------------------------------------------------------------------------------------------
 
 -- what is before suffixes is used so, where they and it together are used in a role
 abbrev pub role_before : Role → Suffixes → Role
@@ -105,7 +107,7 @@ abbrev pub role_under : Prefix → Role
 role_under SizeOf = Whole
 role_under _ = Value
 
--- facts ----------------------------------------------------------------------------------------------------------------
+-- facts ---------------------------------------------------------------------------------------------------------------
 
 abbrev pub some_holds_call : List Facts → Bool
 some_holds_call [] = false
@@ -145,7 +147,7 @@ evaluated _ f = f ∷ []
 abbrev pub unary_facts : Place → Role → Token → Bool → Prefix → Facts → Facts
 unary_facts p role first of_star op f = facts_of role first (prefix_sense p of_star op f.sense) (evaluated op f)
 
--- declarators ----------------------------------------------------------------------------------------------------------
+-- declarators ---------------------------------------------------------------------------------------------------------
 
 -- 6.7.5.3: a parameter of an array or function type is a pointer
 abbrev pub type_for : Owner → Option Qualified → Option Qualified
@@ -178,10 +180,10 @@ is_too_large p (Some n) t = is_large (type_layout p (array_of p (Some n) t))
 
 -- 6.7.2.1: the size of a struct after its last member
 abbrev pub whole_size : Place → StructIdentity → Option Layout
-whole_size p s = padded (front_before (last_member p s))
+whole_size p s = padded (front_before (last_in_body p s))
 
 abbrev mutual
-  -- expressions (6.5) --------------------------------------------------------------------------------------------------
+  -- expressions (6.5) -------------------------------------------------------------------------------------------------
 
   pub typed_expression : Place → Role → Expr → Typed
   typed_expression p role (Name t) =
@@ -272,7 +274,7 @@ abbrev mutual
       let value = facts_of (role_before role rest) so_far.first (step p so_far.sense) (so_far ∷ []) in
       typed.PostIncrement t (prefix (text p t)) value (typed_steps p role None value rest)
 
-  -- what is written in types, before more of it (6.7.2) ----------------------------------------------------------------
+  -- what is written in types, before more of it (6.7.2) ---------------------------------------------------------------
 
   pub in_specifiers : Place → Around → Specifiers → TypeParts → TypeParts
   in_specifiers p around NoSpecifiers more = more
@@ -365,7 +367,7 @@ abbrev mutual
       let base = base_type q s in
       in_specifiers p nothing_around s (in_declarator q r base [] d
       (parameter_part defining r ds (first_of_specifiers before s) d base others
-      (in_more_params defining (with_parameter r defining (name_of d) (made r ds base)) others more)))
+      (in_more_params defining (with_parameter r defining s (name_of d) (made r ds base)) others more)))
 
   pub in_more_params : Defining → Place → MoreParams → TypeParts → TypeParts
   in_more_params defining p NoMore more = more
@@ -377,4 +379,4 @@ abbrev mutual
       let base = base_type q s in
       in_specifiers p nothing_around s (in_declarator q r base [] d
       (WholeDeclarator (declarator_facts (OfParameter defining) r ds (first_of_specifiers comma s) d base)
-      (in_more_params defining (with_parameter r defining (name_of d) (made r ds base)) others more)))
+      (in_more_params defining (with_parameter r defining s (name_of d) (made r ds base)) others more)))

@@ -1,5 +1,5 @@
--- Typed trees of expressions (C99 6.5): the shape of the tree that is written, with operators as values, for each name its
--- meaning and for each value its sense. What stands above names and types speaks of these alone.
+-- Typed trees of expressions (C99 6.5): the shape of the tree that is written, with operators as values, for each name
+-- its meaning and for each value its sense. What stands above names and types speaks of these alone.
 use Rattle.std.specs.Prelude.{Bool, List, [], ◌∷◌, Option}
 use Rattle.ck_base.specs.declared.tokens.Token.{Token}
 use Rattle.ck_prog.specs.Declarations.{Layout, MemberOf, Entry}

@@ -1,7 +1,9 @@
 -- The sense of an expression, what a declarator says of its name, and the place after each tree (C99 6.5, 6.7.2 to
 -- 6.7.6). These depend on each other: a size is an expression, `sizeof` takes a type, and a type may declare names.
-use Rattle.std.specs.Prelude.{ℕ, ◌+◌, Bool, true, false, List, [], ◌∷◌, ◌++◌, Option, Some, None, if◌then◌else◌, ℤ, pos}
+use Rattle.std.specs.Prelude.{ℕ, ◌+◌, Bool, true, false, List, [], ◌∷◌, ◌++◌, length, Option, Some, None, if◌then◌else◌, ℤ, pos}
 use Rattle.ck_base.specs.declared.tokens.Token.{Token}
+use Rattle.ck_base.specs.CharacterConstants.{character_constant_value, string_values}
+use Rattle.ck_base.specs.IntegerConstants.{integer_value}
 use Rattle.ck_grammar.specs.Trees as trees
 use Rattle.ck_grammar.specs.Trees.{Expr, Operands, Suffixes, Specifiers, Members, Declarators, Declarator, Dims, Params}
 use Rattle.ck_grammar.specs.Trees.{MoreParams, Enumerators, Name, Constant, Strings, Paren, Postfix, Unary, SizeofType}
@@ -20,7 +22,7 @@ use Rattle.ck_prog.specs.Declarations.{inside, outside, meaning_of}
 use Rattle.ck_prog.specs.Derivations.{Derivation, OpenArray, SizedArray, FunctionOf, made, pointers, Signature}
 use Rattle.ck_prog.specs.Derivations.{no_parameters, with_first_type, with_next_type}
 use Rattle.ck_prog.specs.Linking.{unqualified_type}
-use Rattle.ck_prog.specs.Literals.{type_of_constant, constant_value, is_character, character_value, characters_of}
+use Rattle.ck_prog.specs.Literals.{type_of_constant, is_character}
 use Rattle.ck_prog.specs.Operators.{operator, prefix, assigning}
 use Rattle.ck_prog.specs.PostfixSenses.{element, result, access}
 use Rattle.ck_prog.specs.Senses.{Sense, Constancy, Valueless, Known, no_type, integer, pointer}
@@ -35,7 +37,7 @@ use Rattle.ck_prog.specs.declared.names.Storage.TheVariants.{Static, Register}
 use Rattle.ck_prog.specs.declared.operators.Prefix.{Prefix}
 use Rattle.ck_prog.specs.declared.operators.Prefix.TheVariants.{Dereference}
 
--- primary expressions (6.5.1) ------------------------------------------------------------------------------------------
+-- primary expressions (6.5.1) -----------------------------------------------------------------------------------------
 
 abbrev pub is_static : Storage → Bool
 is_static Static = true
@@ -76,13 +78,13 @@ number_sense (Some t) v = integer (Integer t) (Known (pos v))
 -- 6.4.4.4
 abbrev pub constant_sense : Place → Token → Sense
 constant_sense p t =
-    if is_character (text p t) then integer int (Known (pos (character_value (text p t))))
-    else number_sense (type_of_constant (text p t)) (constant_value (text p t))
+    if is_character (text p t) then integer int (Known (pos (character_constant_value (text p t))))
+    else number_sense (type_of_constant (text p t)) (integer_value (text p t))
 
 -- 6.4.5: the characters of neighbouring literals, and one of value 0
 abbrev pub all_characters : Place → List Token → ℕ
 all_characters p [] = 1
-all_characters p (t ∷ ts) = characters_of (text p t) + all_characters p ts
+all_characters p (t ∷ ts) = length (string_values (text p t)) + all_characters p ts
 
 abbrev pub strings_sense : Place → Token → List Token → Sense
 strings_sense p t ts =
@@ -105,7 +107,7 @@ name_of (Named stars name dims) = Some name
 name_of (Nested stars opening d closing dims) = name_of d
 
 abbrev mutual
-  -- expressions (6.5) --------------------------------------------------------------------------------------------------
+  -- expressions (6.5) -------------------------------------------------------------------------------------------------
 
   pub sense : Place → Expr → Sense
   sense p (Name t) = name_sense p t
@@ -150,7 +152,7 @@ abbrev mutual
       suffixes_sense p (access p (is_written p t ".") a (text p name)) rest
   suffixes_sense p a (PostIncrement t rest) = suffixes_sense p (step p a) rest
 
-  -- declarators (6.7.5) ------------------------------------------------------------------------------------------------
+  -- declarators (6.7.5) -----------------------------------------------------------------------------------------------
 
   -- what a declarator says of its name, the first part first: dimensions and parameters before pointers
   pub derivations : Place → Declarator → List Derivation
@@ -176,7 +178,7 @@ abbrev mutual
       let q = after_specifiers p nothing_around s in
       let r = after_declarator q d in
       let t = made r (derivations q d) (base_type q s) in
-      with_first_type (name_of d) t others (more_signature (with_parameter r Declares (name_of d) t) others)
+      with_first_type (name_of d) t others (more_signature (with_parameter r Declares s (name_of d) t) others)
 
   pub more_signature : Place → MoreParams → Signature
   more_signature p NoMore = no_parameters
@@ -185,9 +187,9 @@ abbrev mutual
       let q = after_specifiers p nothing_around s in
       let r = after_declarator q d in
       let t = made r (derivations q d) (base_type q s) in
-      with_next_type t (more_signature (with_parameter r Declares (name_of d) t) others)
+      with_next_type t (more_signature (with_parameter r Declares s (name_of d) t) others)
 
-  -- the place after an expression, whose type names may declare --------------------------------------------------------
+  -- the place after an expression, whose type names may declare -------------------------------------------------------
 
   pub after : Place → Expr → Place
   after p (Name t) = p
@@ -215,7 +217,7 @@ abbrev mutual
   after_suffixes p (MemberAccess t name rest) = after_suffixes p rest
   after_suffixes p (PostIncrement t rest) = after_suffixes p rest
 
-  -- the place after specifiers (6.7.2) ---------------------------------------------------------------------------------
+  -- the place after specifiers (6.7.2) --------------------------------------------------------------------------------
 
   pub after_specifiers : Place → Around → Specifiers → Place
   after_specifiers p around NoSpecifiers = p
@@ -255,7 +257,7 @@ abbrev mutual
       let v = (sense p e).constancy in
       after_enumerators (with_enumerator (after p e) name v) (next_value v) rest
 
-  -- the place after a declarator, before its name is declared (6.7.5) --------------------------------------------------
+  -- the place after a declarator, before its name is declared (6.7.5) -------------------------------------------------
 
   pub after_declarator : Place → Declarator → Place
   after_declarator p (Abstract stars dims) = after_dims p dims
@@ -278,7 +280,7 @@ abbrev mutual
       let q = after_specifiers p nothing_around s in
       let r = after_declarator q d in
       let t = made r (derivations q d) (base_type q s) in
-      after_more_params defining (with_parameter r defining (name_of d) t) others
+      after_more_params defining (with_parameter r defining s (name_of d) t) others
 
   pub after_more_params : Defining → Place → MoreParams → Place
   after_more_params defining p NoMore = p
@@ -287,4 +289,4 @@ abbrev mutual
       let q = after_specifiers p nothing_around s in
       let r = after_declarator q d in
       let t = made r (derivations q d) (base_type q s) in
-      after_more_params defining (with_parameter r defining (name_of d) t) others
+      after_more_params defining (with_parameter r defining s (name_of d) t) others

@@ -8,12 +8,14 @@ use Rattle.ck_prog.specs.AssignmentSenses.{is_modifiable}
 use Rattle.ck_prog.specs.BinarySenses.{points_to_object}
 use Rattle.ck_prog.specs.ConstantExpressions.{unary_constancy, cast_constancy}
 use Rattle.ck_prog.specs.Declarations.{Layout, Place}
-use Rattle.ck_prog.specs.Senses.{Constancy, Varying, Known, Sense, no_type, value_if, integer, pointer, value_type, from_type}
+use Rattle.ck_prog.specs.Senses.{Constancy, Varying, Known, Sense, no_type, value_if, integer, pointer, value_type}
+use Rattle.ck_prog.specs.Senses.{from_type}
 use Rattle.ck_prog.specs.Senses.{is_fixed_value, is_known, is_zero}
-use Rattle.ck_prog.specs.Sizes.{layout}
+use Rattle.ck_prog.specs.Sizes.{layout, if_small}
 use Rattle.ck_prog.specs.TypeClasses.{int, size_type, is_integer, is_pointer, is_scalar, is_function, is_void}
 use Rattle.ck_prog.specs.declared.operators.Prefix.{Prefix}
-use Rattle.ck_prog.specs.declared.operators.Prefix.TheVariants.{Unary, Increment, Decrement, Address, Dereference, SizeOf}
+use Rattle.ck_prog.specs.declared.operators.Prefix.TheVariants.{Unary, Increment, Decrement, Address, Dereference}
+use Rattle.ck_prog.specs.declared.operators.Prefix.TheVariants.{SizeOf}
 
 -- 6.5.3.3: of an integer as ck_types says; `!` of a pointer is an `int`
 abbrev pub unary_by : UnaryOperator → Sense → CType → Sense
@@ -43,13 +45,13 @@ step_by p a t = value_if (is_modifiable p a t && (is_integer t || points_to_obje
 abbrev pub step : Place → Sense → Sense
 step p a = from_type a.type (step_by p a)
 
--- 6.5.3.4: no size of a function or an incomplete type
+-- 6.5.3.4: a function, an incomplete type and one that is too large have no size
 abbrev pub size_of_layout : Option Layout → Sense
 size_of_layout None = no_type
 size_of_layout (Some l) = integer size_type (Known (pos l.size))
 
 abbrev pub size_of : Place → Option CType → Sense
-size_of p t = from_type t (λ t. size_of_layout (layout p t))
+size_of p t = from_type t (λ t. size_of_layout (if_small (layout p t)))
 
 -- an operator before its operand, which may be a `*` and its operand
 abbrev pub prefix_sense : Place → Bool → Prefix → Sense → Sense
@@ -60,7 +62,7 @@ prefix_sense p of_star Address a = from_type a.type (address of_star a)
 prefix_sense p of_star Dereference a = dereference a
 prefix_sense p of_star SizeOf a = size_of p a.type
 
--- 6.5.4 ----------------------------------------------------------------------------------------------------------------
+-- 6.5.4 ---------------------------------------------------------------------------------------------------------------
 
 -- 6.6: a cast of an integer to an integer type is a constant expression where its operand is
 abbrev pub constancy_as : CType → CType → Constancy → Constancy

@@ -1,5 +1,5 @@
 use Rattle.std.proofs.Common.{◌≡◌, ◌-◌, ◌≤◌, length, drop}
-use Rattle.ck_lexer.specs.Constants.{are_characters}
+use Rattle.ck_base.specs.CharacterConstants.{are_characters}
 use Rattle.ck_lexer.proofs.literals.are_characters.Given as goal
 
 abbrev pub invariant-loop-at : goal.invariant-loop-at

@@ -1,6 +1,6 @@
 use Rattle.std.proofs.Common.{arith}
 use Rattle.std.proofs.lemmas.List.Sums.{prefix_len-le-length}
-use Rattle.ck_lexer.specs.Bytes.{is_hexadecimal_digit}
+use Rattle.ck_base.specs.Characters.{is_hexadecimal_digit}
 use Rattle.ck_lexer.proofs.literals.hexadecimal_size.Goals as goal
 
 pub overflow_add-length : goal.overflow_add-length

@@ -1,6 +1,6 @@
 use Rattle.std.proofs.Common.{arith}
 use Rattle.std.proofs.lemmas.List.Sums.{prefix_len-le-length}
-use Rattle.ck_lexer.specs.Bytes.{is_octal_digit}
+use Rattle.ck_base.specs.Characters.{is_octal_digit}
 use Rattle.ck_lexer.proofs.literals.octal_length.Goals as goal
 
 pub returns-clause-within : goal.returns-clause-within

@@ -1,5 +1,5 @@
 use Rattle.std.proofs.Common.{◌≡◌, drop}
-use Rattle.ck_lexer.specs.Markers.{are_flags, flags_from}
+use Rattle.ck_lexer.specs.Scanning.{are_flags, flags_from}
 use Rattle.ck_lexer.proofs.markers.are_flags.Given as goal
 
 abbrev pub invariant-loop-byte : goal.invariant-loop-byte

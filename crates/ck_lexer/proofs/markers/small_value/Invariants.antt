@@ -1,5 +1,5 @@
 use Rattle.std.proofs.Common.{◌≡◌, ◌<◌, ◌^◌, take}
-use Rattle.ck_lexer.specs.Constants.{value_of}
+use Rattle.ck_base.specs.IntegerConstants.{value_of}
 use Rattle.ck_lexer.proofs.markers.small_value.Given as goal
 
 abbrev pub invariant-loop-byte : goal.invariant-loop-byte

@@ -1,6 +1,6 @@
 use Rattle.std.proofs.Common.{ap, ◌∙◌, take}
 use Rattle.std.specs.List.{list_all}
-use Rattle.ck_lexer.specs.Bytes.{is_digit}
+use Rattle.ck_base.specs.Characters.{is_digit}
 use Rattle.ck_lexer.proofs.OneMarker.{prefix_all}
 use Rattle.ck_lexer.proofs.markers.with_number.Goals as goal
 

@@ -1,12 +1,13 @@
 use Rattle.std.proofs.Common.{arith}
 use Rattle.std.proofs.lemmas.List.Sums.{prefix_len-le-length}
-use Rattle.ck_lexer.specs.Constants.{is_digit_of}
+use Rattle.ck_base.specs.IntegerConstants.{is_digit_of}
+use Rattle.ck_lexer.specs.Scanning.{number_of}
 use Rattle.ck_lexer.proofs.numbers.is_integer_constant.Goals as goal
 
 pub split_at-requires : goal.split_at-requires
 split_at-requires c = omega (
   arith,
   prefix_len-le-length
-      (is_digit_of c.base_of-base.result) c.after_prefix-part.result.now,
+      (is_digit_of (number_of c.base_of-base.result)) c.after_prefix-part.result.now,
   c.digits_length.ensures,
 )

@@ -1,5 +1,6 @@
 use Rattle.std.proofs.Common.{◌≡◌, ◌<◌, ◌^◌, take}
-use Rattle.ck_lexer.specs.Constants.{number_of, value_of}
+use Rattle.ck_base.specs.IntegerConstants.{value_of}
+use Rattle.ck_lexer.specs.Scanning.{number_of}
 use Rattle.ck_lexer.proofs.numbers.value_of.Given as goal
 
 abbrev pub invariant-loop-digit : goal.invariant-loop-digit
