@@ -8,3 +8,5 @@ mod Texts
 mod Walks
 mod Worked
 mod WorkedTrees
+mod ProjectTexts
+mod WorkedProjects

@@ -47,7 +47,7 @@ kind_of (b ∷ rest) =
     kind_by (is_keyword (b ∷ rest)) (b ∈range "az" || b ∈range "AZ" || b ∈ "_") (b ∈range "09") (b ∈ "\"") (b ∈ "'")
 
 -- the tokens that these words are, from a byte on
-abbrev tokens_from : ℕ → ℕ → List (List ℕ) → List Token
+abbrev pub tokens_from : ℕ → ℕ → List (List ℕ) → List Token
 tokens_from file start [] = []
 tokens_from file start (text ∷ texts) =
     record { kind = kind_of text; span = record { file = file; start = start; end = start + length text } }
@@ -60,7 +60,7 @@ tokens_of file line = tokens_from file 0 (words line)
 abbrev pub expression_of : List (List ℕ) → String → Option (Expr × List Token)
 expression_of typedefs line = expr_at (word_of (codes line) typedefs) most level.comma (tokens_of 0 line)
 
-abbrev or_empty : Option (List External) → List External
+abbrev pub or_empty : Option (List External) → List External
 or_empty None = []
 or_empty (Some xs) = xs
 

@@ -16,7 +16,7 @@ use Rattle.ck_prog.specs.Declarations.{Layout, Entry, Meaning, Variable, Functio
 use Rattle.ck_prog.specs.DeclarationRefusals.{is_enum_tag, is_label}
 use Rattle.ck_prog.specs.Derivations.{element_count}
 use Rattle.ck_prog.specs.Linking.{is_linked, linkage_of}
-use Rattle.ck_prog.specs.Projects.{Project, outermost, of_one_function}
+use Rattle.ck_prog.specs.Projects.{Told, outermost, of_one_function}
 use Rattle.ck_prog.specs.Senses.{Constancy, Known, Sense, value_type, is_fixed_value, is_known}
 use Rattle.ck_prog.specs.Sights.{LabelOfSwitch, CaseLabel, DefaultLabel, is_status_call}
 use Rattle.ck_prog.specs.Sizes.{is_large}
@@ -127,7 +127,7 @@ gives_status None = true
 gives_status (Some (Value f x)) = is_status_call x
 gives_status (Some (Braces f is)) = false
 
-abbrev pub is_wrong_status : Project → DeclaredFacts → Option TypedInitialiser → Bool
+abbrev pub is_wrong_status : Told → DeclaredFacts → Option TypedInitialiser → Bool
 is_wrong_status k f i = f.status && (list_any (is_earlier_in_function f.entry) k.statuses || not (gives_status i))
 
 -- controlling expressions and results (6.8.4, 6.8.5, 6.8.6.4) ----------------------------------------------------------

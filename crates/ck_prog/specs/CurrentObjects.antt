@@ -7,9 +7,9 @@ use Rattle.std.specs.Str.{bytes_eq}
 use Rattle.ck_base.specs.declared.tokens.Token.{Token}
 use Rattle.ck_grammar.specs.Statements.{Designators, Equals, DotName, AtIndex}
 use Rattle.ck_grammar.specs.Trees.{Expr, Strings}
-use Rattle.ck_types.specs.Types.{StructIdentity, CType, Integer, Array, Struct}
+use Rattle.ck_types.specs.Types.{StructIdentity, CType, Integer, Array, Struct, same_struct}
 use Rattle.ck_types.specs.declared.integer_types.IntegerType.TheVariants.{Char, SignedChar}
-use Rattle.ck_prog.specs.Declarations.{MemberOf, Meaning, Member, Entry, Place, text}
+use Rattle.ck_prog.specs.Declarations.{MemberOf, Meaning, Member, StructTag, Entry, Place, text}
 use Rattle.ck_prog.specs.Linking.{unqualified_type}
 use Rattle.ck_prog.specs.Senses.{Constancy, Known, Sense}
 use Rattle.ck_prog.specs.Sizes.{is_member, most_elements}
@@ -37,9 +37,24 @@ whole_object t = record { path = []; type = t; member = None }
 
 -- parts ----------------------------------------------------------------------------------------------------------------
 
--- 6.7.2.1: the members of a struct, in order
+abbrev pub is_tag_of : StructIdentity → Meaning → Bool
+is_tag_of s (StructTag t) = same_struct s t
+is_tag_of s m = false
+
+-- the members after the latest tag of a struct, the latest first
+abbrev pub members_down : ℕ → StructIdentity → List Entry → List Entry
+members_down file s [] = []
+members_down file s (e ∷ es) =
+    if e.file == file && is_tag_of s e.meaning then []
+    else if e.file == file && is_member s e.meaning then e ∷ members_down file s es
+    else members_down file s es
+
+-- 6.7.2.1: the members of a struct that a file knows, in order
+abbrev pub members_in : ℕ → StructIdentity → List Entry → List Entry
+members_in file s declared = reverse (members_down file s declared)
+
 abbrev pub members_of : Place → StructIdentity → List Entry
-members_of p s = reverse (filter (λ e. is_member s e.meaning && e.file == p.file) p.declared)
+members_of p s = members_in p.file s p.declared
 
 abbrev pub part_as : Object → ℕ → Option CType → Option MemberOf → Option Object
 part_as o k t m = Some (record { path = o.path ++ (k ∷ []); type = t; member = m })

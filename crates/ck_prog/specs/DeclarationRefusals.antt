@@ -10,11 +10,12 @@ use Rattle.ck_kernel.specs.declared.entries.EntrySink.{EntrySink}
 use Rattle.ck_kernel.specs.declared.entries.EntrySink.TheVariants.{Absent, Thread, Descriptor, Timer}
 use Rattle.ck_types.specs.Types.{StructIdentity, CType, Parameters, Void, Pointer, Array, Struct, Function, NoParameters}
 use Rattle.ck_types.specs.Types.{Parameter, ByTag, ByTypedef, compatible, same_qualifiers, same_struct, same_truth}
+use Rattle.ck_prog.specs.CurrentObjects.{members_in}
 use Rattle.ck_prog.specs.Declarations.{Entry, Meaning, Variable, FunctionNamed, TypeNamed, Enumerator, EnumTag, StructTag}
 use Rattle.ck_prog.specs.Declarations.{Member, Completed, Label, Place, is_ordinary, is_tag, latest}
 use Rattle.ck_prog.specs.Linking.{is_linked, is_external, linkage_of, are_one, type_of, joined_over}
-use Rattle.ck_prog.specs.Projects.{Project, beside, of_one_function, defines, is_tentative, may_define, kernel_call}
-use Rattle.ck_prog.specs.Sizes.{is_complete}
+use Rattle.ck_prog.specs.Projects.{Told, beside, of_one_function, defines, is_tentative, may_define, kernel_call}
+use Rattle.ck_prog.specs.Sizes.{is_complete, is_member}
 use Rattle.ck_prog.specs.TypeClasses.{Qualified, plain, is_integer}
 use Rattle.ck_prog.specs.TypedExpressions.{is_function_named}
 use Rattle.ck_prog.specs.declared.names.Defining.TheVariants.{Defines, Tentative}
@@ -41,26 +42,22 @@ abbrev pub is_defined_by : Entry → Entry → Bool
 is_defined_by e d = are_one e d && (if e.file == d.file then defines d.meaning else may_define d.meaning)
 
 -- 6.9.2: tentative definitions are a definition of their file where it has no other; the first one counts
-abbrev pub is_only_tentative : Project → Entry → List Entry → Bool
+abbrev pub is_only_tentative : Told → Entry → List Entry → Bool
 is_only_tentative k e before =
     is_tentative e.meaning
     && not (list_any (λ d. are_one e d && d.file == e.file && is_tentative d.meaning) before)
-    && not (list_any (λ d. are_one e d && d.file == e.file && defines d.meaning) k.all)
+    && not (list_any (λ d. are_one e d && d.file == e.file && defines d.meaning) k.project.all)
 
-abbrev pub defined_twice : Project → Entry → List Entry → Bool
+abbrev pub defined_twice : Told → Entry → List Entry → Bool
 defined_twice k e before =
     (defines e.meaning && is_some (beside e (is_defined_by e) before))
     || (is_only_tentative k e before
     && list_any (λ d. are_one e d && not (d.file == e.file) && may_define d.meaning) before)
 
 -- 6.7.2.1: two members of one struct
-abbrev pub is_member_of : StructIdentity → Meaning → Bool
-is_member_of s (Member m) = same_struct s m.of
-is_member_of s _ = false
-
 abbrev pub member_twice : Entry → Meaning → List Entry → Bool
 member_twice e (Member m) before =
-    is_some (beside e (λ d. d.file == e.file && bytes_eq d.name e.name && is_member_of m.of d.meaning) before)
+    is_some (beside e (λ d. d.file == e.file && bytes_eq d.name e.name && is_member m.of d.meaning) before)
 member_twice e _ before = false
 
 -- 6.7.2.3: two bodies of a tag in one scope, or bodies of both kinds
@@ -90,7 +87,7 @@ label_twice e before =
     is_label e.meaning
     && is_some (beside e (λ d. is_label d.meaning && of_one_function e d && bytes_eq e.name d.name) before)
 
-abbrev pub is_twice : Project → Entry → List Entry → Bool
+abbrev pub is_twice : Told → Entry → List Entry → Bool
 is_twice k e before =
     declared_twice e before
     || defined_twice k e before
@@ -184,9 +181,6 @@ is_struct_named (Struct (ByTypedef first)) name = bytes_eq first name
 is_struct_named _ name = false
 
 -- 6.2.7: those of two files have the same members in order, with compatible types
-abbrev pub members_in : ℕ → StructIdentity → List Entry → List Entry
-members_in file s before = reverse (filter (λ e. e.file == file && is_member_of s e.meaning) before)
-
 abbrev pub member_type : Meaning → Option Qualified
 member_type (Member m) = m.type
 member_type _ = None
@@ -246,9 +240,9 @@ abbrev pub may_be_object : Place → CType → Bool
 may_be_object p (Array q t None) = is_complete p t
 may_be_object p t = is_complete p t
 
-abbrev pub at_end_of_file : Project → ℕ → Place
-at_end_of_file k file = record { declared = k.all; file = file; bytes = []; scope = [] }
+abbrev pub at_end_of_file : Told → ℕ → Place
+at_end_of_file k file = record { declared = k.project.all; file = file; bytes = []; scope = [] }
 
-abbrev pub is_never_complete : Project → Entry → Meaning → Bool
+abbrev pub is_never_complete : Told → Entry → Meaning → Bool
 is_never_complete k e (Variable (Some t) l Tentative s) = not (may_be_object (at_end_of_file k e.file) t.type)
 is_never_complete k e _ = false

@@ -7,7 +7,7 @@ use Rattle.std.specs.Option.{is_some}
 use Rattle.std.specs.Str.{bytes_eq}
 use Rattle.ck_types.specs.Types.{CType, Parameters, Pointer, Array, Function, NoParameters, Parameter, compatible}
 use Rattle.ck_prog.specs.Declarations.{Entry, Meaning, FunctionNamed}
-use Rattle.ck_prog.specs.Projects.{Project, is_outside, is_kernel_call, is_unknown_kernel_name, keeps_status}
+use Rattle.ck_prog.specs.Projects.{Told, is_outside, is_kernel_call, is_unknown_kernel_name, keeps_status}
 use Rattle.ck_prog.specs.Senses.{Sense, value_type}
 use Rattle.ck_prog.specs.Sights.{CallSight, StatusUse, Elsewhere, OfStatus, KeptBy, is_named}
 use Rattle.ck_prog.specs.TypeClasses.{is_function_pointer, holds_function_pointers}
@@ -34,11 +34,11 @@ is_untyped f operands = not (is_some f.sense.type) && list_all is_some operands
 -- U15: function value outside the subset -------------------------------------------------------------------------------
 
 -- a function without a body that isn't called
-abbrev pub is_outside_named : Project → Option Entry → Bool
+abbrev pub is_outside_named : Told → Option Entry → Bool
 is_outside_named k None = false
 is_outside_named k (Some e) = is_outside k e
 
-abbrev pub is_outside_value : Project → Facts → Option Entry → Bool
+abbrev pub is_outside_value : Told → Facts → Option Entry → Bool
 is_outside_value k f e = not (is_called f.role) && is_outside_named k e
 
 -- a cast of a function pointer, or to one, but for its own type and for null pointer constants
@@ -90,13 +90,13 @@ takes_functions (FunctionNamed (Some (Function q t ps more)) l d) = takes_functi
 takes_functions _ = false
 
 -- a function without a body that is no kernel call
-abbrev pub is_foreign : Project → Entry → Bool
+abbrev pub is_foreign : Told → Entry → Bool
 is_foreign k e = is_outside k e && not (is_kernel_call e.name)
 
-abbrev pub is_refused_call : Project → Entry → Bool
-is_refused_call k e = is_foreign k e && (not (list_any (bytes_eq e.name) k.outside) || takes_functions e.meaning)
+abbrev pub is_refused_call : Told → Entry → Bool
+is_refused_call k e = is_foreign k e && (not (list_any (bytes_eq e.name) k.project.outside) || takes_functions e.meaning)
 
-abbrev pub is_unnamed_call : Project → Facts → Option Entry → Bool
+abbrev pub is_unnamed_call : Told → Facts → Option Entry → Bool
 is_unnamed_call k f None = false
 is_unnamed_call k f (Some e) = is_called f.role && is_refused_call k e
 
@@ -117,7 +117,7 @@ abbrev pub passes_function : Meaning → List Facts → Bool
 passes_function (FunctionNamed (Some (Function q t ps true)) l d) fs = some_function_after ps fs
 passes_function _ fs = false
 
-abbrev pub is_function_passed : Project → CallSight → Option Entry → Bool
+abbrev pub is_function_passed : Told → CallSight → Option Entry → Bool
 is_function_passed k c None = false
 is_function_passed k c (Some e) = is_foreign k e && passes_function e.meaning c.arguments
 
@@ -128,15 +128,15 @@ is_elsewhere OfStatus = false
 is_elsewhere _ = true
 
 -- a status variable that is neither kept in nor restored from
-abbrev pub is_stray_status : Project → Option Entry → StatusUse → Bool
+abbrev pub is_stray_status : Told → Option Entry → StatusUse → Bool
 is_stray_status k e used = keeps_status k e && is_elsewhere used
 
-abbrev pub is_kept : Project → StatusUse → Bool
+abbrev pub is_kept : Told → StatusUse → Bool
 is_kept k (KeptBy e) = keeps_status k e
 is_kept k _ = false
 
 -- a status that no status variable keeps, or one that is restored from something else
-abbrev pub is_stray_pair : Project → CallSight → Bool
+abbrev pub is_stray_pair : Told → CallSight → Bool
 is_stray_pair k c =
     (is_named c.function (codes "chSysGetStatusAndLockX") && not (is_kept k c.used))
     || (is_named c.function (codes "chSysRestoreStatusX") && not (keeps_status k c.named))

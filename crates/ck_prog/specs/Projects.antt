@@ -8,17 +8,15 @@ use Rattle.std.specs.Str.{bytes_eq}
 use Rattle.ck_base.specs.KernelNames.{kernel_name}
 use Rattle.ck_base.specs.declared.tokens.Token.{Token}
 use Rattle.ck_kernel.specs.KernelTable.{KernelCall, kernel_table}
+use Rattle.ck_prog.specs.Acts.{Project, has_body}
 use Rattle.ck_prog.specs.Declarations.{Entry, Meaning, Variable, FunctionNamed, latest}
 use Rattle.ck_prog.specs.Linking.{are_one}
 use Rattle.ck_prog.specs.Sights.{Sight, DeclaredName}
 use Rattle.ck_prog.specs.TypedExpressions.{is_function_named}
 use Rattle.ck_prog.specs.declared.names.Defining.TheVariants.{Defines, Tentative}
 
-pub record Project : Type 0 where
-  -- the latest first
-  pub all : List Entry
-  -- the names of the settings' functions
-  pub outside : List (List ℕ)
+pub record Told : Type 0 where
+  pub project : Project
   -- the declarations of variables that may keep the kernel's status
   pub statuses : List Entry
 
@@ -55,13 +53,9 @@ is_tentative _ = false
 abbrev pub may_define : Meaning → Bool
 may_define m = defines m || is_tentative m
 
--- some declaration of the project defines the function
-abbrev pub has_body : Project → Entry → Bool
-has_body k e = list_any (λ d. is_function_named d.meaning && defines d.meaning && are_one e d) k.all
-
 -- a function that the project declares and doesn't define
-abbrev pub is_outside : Project → Entry → Bool
-is_outside k e = is_function_named e.meaning && not (has_body k e)
+abbrev pub is_outside : Told → Entry → Bool
+is_outside k e = is_function_named e.meaning && not (has_body k.project.all e)
 
 -- kernel calls ---------------------------------------------------------------------------------------------------------
 
@@ -81,6 +75,6 @@ statuses_in [] = []
 statuses_in (DeclaredName f i ∷ ss) = if f.status then f.entry ∷ statuses_in ss else statuses_in ss
 statuses_in (s ∷ ss) = statuses_in ss
 
-abbrev pub keeps_status : Project → Option Entry → Bool
+abbrev pub keeps_status : Told → Option Entry → Bool
 keeps_status k None = false
 keeps_status k (Some e) = list_any (λ d. same_token d.at e.at) k.statuses

@@ -20,7 +20,7 @@ use Rattle.ck_prog.specs.ExpressionRefusals.{is_undeclared, is_untyped, is_outsi
 use Rattle.ck_prog.specs.ExpressionRefusals.{is_whole, is_crowded, is_unnamed_call, is_function_passed, is_stray_status}
 use Rattle.ck_prog.specs.ExpressionRefusals.{is_stray_pair}
 use Rattle.ck_prog.specs.Linking.{unqualified_type}
-use Rattle.ck_prog.specs.Projects.{Project, is_unknown_kernel_name, statuses_in}
+use Rattle.ck_prog.specs.Projects.{Told, is_unknown_kernel_name, statuses_in}
 use Rattle.ck_prog.specs.Senses.{is_known}
 use Rattle.ck_prog.specs.Sights.{Sight, CallSight, NameUse, ValueOf, PrimaryValue, CastOf, CallOf, MentionOf, StructOf}
 use Rattle.ck_prog.specs.Sights.{EnumeratorOf, SizeOf, DeclaratorOf, ValueGiven, BracesGiven, MemberNamed, ElementNamed}
@@ -33,7 +33,7 @@ use Rattle.ck_prog.specs.TypedFiles.{ReadFile, declarations, typed_files}
 
 -- the tests of sights --------------------------------------------------------------------------------------------------
 
-abbrev pub sight_test : Project → Unsupported → Sight → Bool
+abbrev pub sight_test : Told → Unsupported → Sight → Bool
 sight_test k U8 (NameUse f name e used) = is_undeclared name e
 sight_test k U8 (MentionOf struct tag e) = is_unknown_enum struct e
 sight_test k U9 (RepeatedLabel keyword label before) = list_any (same_label label) before
@@ -66,7 +66,7 @@ sight_test k U17 (CallOf c) = is_crowded c
 sight_test k U18 (NameUse f name e used) = is_unnamed_call k f e
 sight_test k U18 (CallOf c) = is_function_passed k c c.function
 sight_test k U19 (SwitchLabel keyword found) = not found
-sight_test k U19 (GotoTo keyword name scope) = not (list_any (is_label_of keyword.span.file scope name) k.all)
+sight_test k U19 (GotoTo keyword name scope) = not (list_any (is_label_of keyword.span.file scope name) k.project.all)
 sight_test k U19 (JumpTo keyword found) = not found
 sight_test k U26 (NameUse f name e used) = is_stray_status k e used
 sight_test k U26 (CallOf c) = is_stray_pair k c
@@ -108,7 +108,7 @@ sight_spot number (Returned result f) = f.first
 
 -- the tests of declarations, each at its name --------------------------------------------------------------------------
 
-abbrev pub entry_test : Project → Unsupported → Entry → List Entry → Bool
+abbrev pub entry_test : Told → Unsupported → Entry → List Entry → Bool
 entry_test k U9 e before = is_twice k e before
 entry_test k U10 e before = is_different e before
 entry_test k U12 e before = is_kernel_defined e
@@ -130,19 +130,19 @@ typing = U14 ∷ U15 ∷ U16 ∷ U17 ∷ U18 ∷ U19 ∷ U26 ∷ []
 abbrev pub refused_if : Bool → Unsupported → Token → List RefusedAt → List RefusedAt
 refused_if test number at more = if test then record { number = number; at = at } ∷ more else more
 
-abbrev pub of_sight : Project → List Unsupported → Sight → List RefusedAt → List RefusedAt
+abbrev pub of_sight : Told → List Unsupported → Sight → List RefusedAt → List RefusedAt
 of_sight k [] s more = more
 of_sight k (n ∷ ns) s more = refused_if (sight_test k n s) n (sight_spot n s) (of_sight k ns s more)
 
-abbrev pub of_sights : Project → List Unsupported → List Sight → List RefusedAt
+abbrev pub of_sights : Told → List Unsupported → List Sight → List RefusedAt
 of_sights k numbers [] = []
 of_sights k numbers (s ∷ ss) = of_sight k numbers s (of_sights k numbers ss)
 
-abbrev pub of_entry : Project → List Unsupported → Entry → List Entry → List RefusedAt → List RefusedAt
+abbrev pub of_entry : Told → List Unsupported → Entry → List Entry → List RefusedAt → List RefusedAt
 of_entry k [] e before more = more
 of_entry k (n ∷ ns) e before more = refused_if (entry_test k n e before) n e.at (of_entry k ns e before more)
 
-abbrev pub of_entries : Project → List Unsupported → List Entry → List RefusedAt
+abbrev pub of_entries : Told → List Unsupported → List Entry → List RefusedAt
 of_entries k numbers [] = []
 of_entries k numbers (e ∷ before) = of_entry k numbers e before (of_entries k numbers before)
 
@@ -168,11 +168,14 @@ first_refused (r ∷ rs) = earlier r (first_refused rs)
 abbrev pub sights_of : List ReadFile → List Sight
 sights_of fs = in_files (typed_files fs)
 
-abbrev pub project_of : List (List ℕ) → List ReadFile → Project
-project_of outside fs =
-    record { all = declarations fs; outside = outside; statuses = statuses_in (sights_of fs) }
+abbrev pub told_of : List (List ℕ) → List ReadFile → Told
+told_of outside fs =
+    record {
+      project = record { all = declarations fs; outside = outside };
+      statuses = statuses_in (sights_of fs);
+    }
 
 -- what of these numbers is refused in a project, where these are the functions that the settings name
 abbrev pub refused : List Unsupported → List (List ℕ) → List ReadFile → List RefusedAt
 refused numbers outside fs =
-    let k = project_of outside fs in of_sights k numbers (sights_of fs) ++ of_entries k numbers k.all
+    let k = told_of outside fs in of_sights k numbers (sights_of fs) ++ of_entries k numbers k.project.all

@@ -10,7 +10,7 @@ use Rattle.ck_grammar.specs.Trees.{Specifiers, Declarator, NoSpecifiers, Word, T
 use Rattle.ck_types.specs.Types.{CType, Array}
 use Rattle.ck_prog.specs.BaseTypes.{base_type}
 use Rattle.ck_prog.specs.Declarations.{Entry, Meaning, Variable, Place, text, is_written, is_file_scope}
-use Rattle.ck_prog.specs.Declaring.{alone, around_by, after_first_specifiers, with_declared}
+use Rattle.ck_prog.specs.Declaring.{alone, around_by, after_first_specifiers, with_declared, declares_function}
 use Rattle.ck_prog.specs.Derivations.{made}
 use Rattle.ck_prog.specs.Linking.{StorageClass, storage_class, declared_as, unqualified_type, type_of}
 use Rattle.ck_prog.specs.Sizes.{layout, is_complete, is_large}
@@ -31,7 +31,7 @@ pub record Specified : Type 0 where
   -- they are those of a variable that may keep the kernel's status
   pub status : Bool
 
--- the kernel's status: a variable of a block, of the type name `syssts_t` with at most `const` and `volatile` ----------
+-- the kernel's status: a variable of a block, of the type name `syssts_t` with at most `const` and `volatile` ---------
 
 abbrev pub are_qualifiers : Place → Specifiers → Bool
 are_qualifiers p NoSpecifiers = true
@@ -48,7 +48,7 @@ abbrev pub is_name : Declarator → Bool
 is_name (Named [] name NoDims) = true
 is_name _ = false
 
--- specifiers, at the place before them, and the first token of the declaration -----------------------------------------
+-- specifiers, at the place before them, and the first token of the declaration ----------------------------------------
 
 abbrev pub specified : Place → Place → Token → Specifiers → Specified
 specified before after first s =
@@ -59,29 +59,32 @@ specified before after first s =
       status = not (is_file_scope before.scope) && are_of_status before s;
     }
 
--- the name and its size ------------------------------------------------------------------------------------------------
+-- the name and its size -----------------------------------------------------------------------------------------------
 
 abbrev pub text_or_nothing : Place → Option Token → List ℕ
 text_or_nothing p None = []
 text_or_nothing p (Some name) = text p name
 
--- as a declarator's name is declared at a place with a type, before an initialiser or not
-abbrev pub declared_entry : Place → Specified → Bool → Declarator → Option Qualified → Entry
-declared_entry p b initialised d t =
-    record {
-      file = p.file;
-      scope = p.scope;
-      name = text_or_nothing p (name_of d);
-      at = or_token b.first (name_of d);
-      meaning = declared_as p b.class initialised (text_or_nothing p (name_of d)) t;
-    }
-
-abbrev pub declared_at : Place → Specified → Bool → Declarator → Option Qualified → Place
-declared_at p b initialised d t = with_declared p b.class initialised (name_of d) t
-
 -- the type of the declarator alone
 abbrev pub own_type : Place → Specified → Declarator → Option Qualified
 own_type p b d = made (after_declarator p d) (derivations p d) b.base
+
+-- a declarator at a place says what its name is; the name is declared at a later place with a type, before an initialiser
+-- or not
+abbrev pub declared_entry : Place → Place → Specified → Bool → Declarator → Option Qualified → Entry
+declared_entry p q b initialised d t =
+    let name = text_or_nothing q (name_of d) in
+    record {
+      file = q.file;
+      scope = q.scope;
+      name = name;
+      at = or_token b.first (name_of d);
+      meaning = declared_as q b.class (declares_function (derivations p d) t) initialised name t;
+    }
+
+abbrev pub declared_at : Place → Place → Specified → Bool → Declarator → Option Qualified → Place
+declared_at p q b initialised d t =
+    with_declared q b.class (declares_function (derivations p d) t) initialised (name_of d) t
 
 -- 6.7.8: at the end of its initialiser an array of unknown size has the size that the initialiser gives it
 abbrev pub with_elements : ℕ → CType → Option CType
@@ -97,15 +100,15 @@ sized_by (Some n) (Some q) = retyped q (with_elements n q.type)
 sized_by _ _ = None
 
 -- a name that has got a size is declared anew with it
-abbrev pub resized_at : Place → Specified → Declarator → Option Qualified → Place
-resized_at p b d None = p
-resized_at p b d (Some t) = declared_at p b true d (Some t)
+abbrev pub resized_at : Place → Place → Specified → Declarator → Option Qualified → Place
+resized_at p q b d None = q
+resized_at p q b d (Some t) = declared_at p q b true d (Some t)
 
-abbrev pub resized_entry : Entry → Place → Specified → Declarator → Option Qualified → Entry
-resized_entry before p b d None = before
-resized_entry before p b d (Some t) = declared_entry p b true d (Some t)
+abbrev pub resized_entry : Entry → Place → Place → Specified → Declarator → Option Qualified → Entry
+resized_entry before p q b d None = before
+resized_entry before p q b d (Some t) = declared_entry p q b true d (Some t)
 
--- facts ----------------------------------------------------------------------------------------------------------------
+-- facts ---------------------------------------------------------------------------------------------------------------
 
 abbrev pub is_static_object : Meaning → Bool
 is_static_object (Variable t l d s) = is_static s
@@ -135,42 +138,41 @@ in_whole_declarator p b d =
     in_declarator p r b.base [] d
     (WholeDeclarator (declarator_facts OfDeclaration r (derivations p d) b.first d b.base) NoParts)
 
--- declarators, with and without an initialiser -------------------------------------------------------------------------
+-- declarators, with and without an initialiser ------------------------------------------------------------------------
 
 abbrev pub after_plain : Place → Specified → Declarator → Place
-after_plain p b d = declared_at (after_declarator p d) b false d (own_type p b d)
+after_plain p b d = declared_at p (after_declarator p d) b false d (own_type p b d)
 
 abbrev pub typed_plain : Place → Specified → Declarator → TypedDeclarators → TypedDeclarators
 typed_plain p b d more =
     let q = after_declarator p d in
-    let entry = declared_entry q b false d (own_type p b d) in
-    typed.Declared (in_whole_declarator p b d) (declared_facts (declared_at q b false d (own_type p b d)) b d entry)
-    None more
+    let entry = declared_entry p q b false d (own_type p b d) in
+    typed.Declared (in_whole_declarator p b d) (declared_facts (after_plain p b d) b d entry) None more
 
 -- 6.2.1: the name is in sight in its initialiser
 abbrev pub at_initialiser : Place → Specified → Declarator → Place
-at_initialiser p b d = declared_at (after_declarator p d) b true d (own_type p b d)
+at_initialiser p b d = declared_at p (after_declarator p d) b true d (own_type p b d)
 
 abbrev pub typed_value : Place → Specified → Declarator → Init → typed.TypedInitialiser
 typed_value p b d i =
-    let entry = declared_entry (after_declarator p d) b true d (own_type p b d) in
+    let entry = declared_entry p (after_declarator p d) b true d (own_type p b d) in
     typed_whole (at_initialiser p b d) (is_static_object entry.meaning) (unqualified_type (own_type p b d)) i
 
 abbrev pub size_by : Place → Specified → Declarator → Init → Option Qualified
 size_by p b d i = sized_by (size_given (typed_value p b d i)) (own_type p b d)
 
 abbrev pub after_initialised : Place → Specified → Declarator → Init → Place
-after_initialised p b d i = resized_at (after_initialiser (at_initialiser p b d) i) b d (size_by p b d i)
+after_initialised p b d i = resized_at p (after_initialiser (at_initialiser p b d) i) b d (size_by p b d i)
 
 abbrev pub typed_initialised : Place → Specified → Declarator → Init → TypedDeclarators → TypedDeclarators
 typed_initialised p b d i more =
-    let entry = declared_entry (after_declarator p d) b true d (own_type p b d) in
+    let entry = declared_entry p (after_declarator p d) b true d (own_type p b d) in
     let r = after_initialiser (at_initialiser p b d) i in
-    let last = resized_entry entry r b d (size_by p b d i) in
+    let last = resized_entry entry p r b d (size_by p b d i) in
     typed.Declared (in_whole_declarator p b d) (declared_facts (after_initialised p b d i) b d last)
     (Some (typed_value p b d i)) more
 
--- declarations ---------------------------------------------------------------------------------------------------------
+-- declarations --------------------------------------------------------------------------------------------------------
 
 abbrev pub after_more : Place → Specified → MoreDeclared → Place
 after_more p b NoMoreDeclared = p

@@ -7,9 +7,9 @@ use Rattle.ck_grammar.specs.Trees.{Specifiers, Declarator}
 use Rattle.ck_types.specs.Types.{CType, Function}
 use Rattle.ck_prog.specs.BaseTypes.{base_type}
 use Rattle.ck_prog.specs.Declarations.{Entry, Meaning, FunctionNamed, Place, text, inside, outside}
-use Rattle.ck_prog.specs.Declaring.{after_function_name, defined_params, at_body, function_defined}
+use Rattle.ck_prog.specs.Declaring.{after_function_name, defined_params, at_body}
 use Rattle.ck_prog.specs.Derivations.{made}
-use Rattle.ck_prog.specs.Linking.{storage_class}
+use Rattle.ck_prog.specs.Linking.{storage_class, function_declared}
 use Rattle.ck_prog.specs.Sizes.{is_complete}
 use Rattle.ck_prog.specs.Tags.{nothing_around}
 use Rattle.ck_prog.specs.TypeClasses.{is_void}
@@ -55,7 +55,7 @@ defined_entry p opening s d =
       scope = p.scope;
       name = name;
       at = or_token (first_of_specifiers opening s) (name_of d);
-      meaning = function_defined r (storage_class p s) name (made r (derivations q d) (base_type q s));
+      meaning = function_declared r (storage_class p s) Defines name (made r (derivations q d) (base_type q s));
     }
 
 abbrev pub defined_facts : Place → Entry → DeclaredFacts
