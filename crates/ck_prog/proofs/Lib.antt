@@ -10,3 +10,4 @@ mod Worked
 mod WorkedTrees
 mod ProjectTexts
 mod WorkedProjects
+mod Try

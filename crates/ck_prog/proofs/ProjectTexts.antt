@@ -3,6 +3,7 @@
 use Rattle.std.specs.Prelude.{ℕ, suc, ◌+◌, ◌==◌, Bool, true, false, List, [], ◌∷◌, length, map, codes, Option, Some, None}
 use Rattle.std.specs.Prelude.{if◌then◌else◌}
 use Rattle.std.specs.List.{join_with_byte}
+use Rattle.std.specs.Option.{option_map}
 use Rattle.std.specs.Str.{bytes_eq}
 use Rattle.ck_base.specs.declared.refusals.Unsupported.{Unsupported}
 use Rattle.ck_base.specs.declared.tokens.Token.{Token}
@@ -11,15 +12,15 @@ use Rattle.ck_grammar.specs.Statements.{External}
 use Rattle.ck_grammar.specs.Words.{words}
 use Rattle.ck_prog.specs.Refused.{RefusedAt, refused, first_refused, linking, typing}
 use Rattle.ck_prog.specs.TypedFiles.{ReadFile}
-use Rattle.ck_prog.proofs.Texts.{tokens_from, or_empty}
+use Rattle.ck_prog.proofs.Texts.{tokens_from}
 use Prim.Native.String.{String}
 
 pub data Answer : Type 0 where
   Accepted : Answer
   -- at this offset of this file
   Refuses : Unsupported → ℕ → ℕ → Answer
-  -- no text of the subset
-  Unread : ℕ → Answer
+  -- a file is none of the grammar
+  Unread : Answer
 
 abbrev is_mark : List ℕ → Bool
 is_mark text = bytes_eq text (codes "@")
@@ -36,16 +37,19 @@ marked_from start (text ∷ texts) = if is_mark text then Some start else marked
 abbrev bytes_of : String → List ℕ
 bytes_of line = join_with_byte 32 (without_mark (words line))
 
-abbrev read : ℕ → String → ReadFile
-read k line =
-    record {
-      bytes = bytes_of line;
-      externals = or_empty (file_at (bytes_of line) (tokens_from k 0 (without_mark (words line))));
-    }
+abbrev with_bytes : String → List External → ReadFile
+with_bytes line xs = record { bytes = bytes_of line; externals = xs }
 
-abbrev read_from : ℕ → List String → List ReadFile
-read_from k [] = []
-read_from k (line ∷ lines) = read k line ∷ read_from (suc k) lines
+abbrev read : ℕ → String → Option ReadFile
+read k line = option_map (with_bytes line) (file_at (bytes_of line) (tokens_from k 0 (without_mark (words line))))
+
+abbrev with_first : Option ReadFile → Option (List ReadFile) → Option (List ReadFile)
+with_first (Some f) (Some fs) = Some (f ∷ fs)
+with_first _ _ = None
+
+abbrev read_from : ℕ → List String → Option (List ReadFile)
+read_from k [] = Some []
+read_from k (line ∷ lines) = with_first (read k line) (read_from (suc k) lines)
 
 abbrev as_answer : Option RefusedAt → Answer
 as_answer None = Accepted
@@ -56,10 +60,13 @@ or_then None later = later
 or_then (Some r) later = Some r
 
 -- where the settings name these functions
-abbrev pub answer_with : List (List ℕ) → List String → Answer
-answer_with outside lines =
-    let files = read_from 0 lines in
+abbrev answer_of : List (List ℕ) → Option (List ReadFile) → Answer
+answer_of outside None = Unread
+answer_of outside (Some files) =
     as_answer (or_then (first_refused (refused linking outside files)) (first_refused (refused typing outside files)))
+
+abbrev pub answer_with : List (List ℕ) → List String → Answer
+answer_with outside lines = answer_of outside (read_from 0 lines)
 
 abbrev pub answer : List String → Answer
 answer lines = answer_with [] lines

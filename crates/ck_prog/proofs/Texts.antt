@@ -60,7 +60,7 @@ tokens_of file line = tokens_from file 0 (words line)
 abbrev pub expression_of : List (List ℕ) → String → Option (Expr × List Token)
 expression_of typedefs line = expr_at (word_of (codes line) typedefs) most level.comma (tokens_of 0 line)
 
-abbrev pub or_empty : Option (List External) → List External
+abbrev or_empty : Option (List External) → List External
 or_empty None = []
 or_empty (Some xs) = xs
 
