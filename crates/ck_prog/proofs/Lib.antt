@@ -10,4 +10,3 @@ mod Worked
 mod WorkedTrees
 mod ProjectTexts
 mod WorkedProjects
-mod Try

@@ -35,3 +35,7 @@ pub mod DeclarationRefusals
 pub mod ExpressionRefusals
 pub mod BodyRefusals
 pub mod Refused
+pub mod Paths
+pub mod Calls
+pub mod Slots
+pub mod SettingsNames
