@@ -1,9 +1,16 @@
--- the theorems
+-- The theorems
+-- typed_keeps_sense
 mod SenseOfTyped
+-- trees_declare, declarations_stay, stays_orderly, stays_fitting
 mod TreesDeclare
 mod Growth
+-- opening_shows, closing_hides, means_open_entry
 mod Scopes
--- worked texts
+-- known_is_in_range: constant expressions, then operators, then expressions
+mod KnownValues
+mod OperatorsFit
+mod SensesFit
+-- Worked texts
 mod Texts
 mod Walks
 mod Worked

@@ -91,7 +91,8 @@ mutual
       last_step-typed q role None
       (call_facts (role_before role rest) f.first (result p f.sense (senses (argument_facts es)))) rest
       ∙ ap (λ x. suffixes_sense q
-      (result p f.sense (x ∷ senses (argument_facts (typed_arguments (after p e) others)))) rest) (sense-typed p Value e)
+      (result p f.sense (x ∷ senses (argument_facts (typed_arguments (after p e) others)))) rest)
+      (sense-typed p Value e)
       ∙ ap (λ xs. suffixes_sense q (result p f.sense (sense p e ∷ xs)) rest) (senses-typed (after p e) others)
   last_step-typed p role function f (MemberAccess t name rest) =
       let sense = access p (is_written p t ".") f.sense (text p name) in

@@ -1,5 +1,6 @@
 -- The place after a tree comes after the place before it.
-use Rattle.std.specs.Prelude.{Bool, true, false, ◌&&◌, Option, Some, None, if◌then◌else◌, List, ℕ}
+use Rattle.std.specs.Prelude.{Bool, true, false, ◌&&◌, Option, Some, None, if◌then◌else◌, List, ℕ, ℤ}
+use Rattle.std.proofs.Common.{◌≡◌, refl}
 use Rattle.ck_base.specs.declared.tokens.Token.{Token}
 use Rattle.ck_grammar.specs.Trees as trees
 use Rattle.ck_grammar.specs.Trees.{Expr, Operands, Suffixes, Specifiers, Members, Declarators, Declarator, Dims, Params}
@@ -9,15 +10,18 @@ use Rattle.ck_grammar.specs.Trees.{CallEmpty, Call, MemberAccess, PostIncrement,
 use Rattle.ck_grammar.specs.Trees.{Struct, Enum, NoMembers, NoDeclarators, Also, Abstract, Named, Nested, NoDims, Open}
 use Rattle.ck_grammar.specs.Trees.{Sized, Function, NoParams, VoidParams, Parameters, NoMore, Ellipsis, More}
 use Rattle.ck_grammar.specs.Trees.{LastOne, LastValued, One, Valued}
+use Rattle.ck_types.specs.IntegerTypes.{represents}
 use Rattle.ck_types.specs.Types.{StructIdentity}
+use Rattle.ck_types.specs.declared.integer_types.IntegerType.TheVariants.{Int}
 use Rattle.ck_prog.specs.BaseTypes.{base_type}
 use Rattle.ck_prog.specs.Declarations.{Meaning, Member, StructTag, EnumTag, Enumerator, Place, text, declaring}
 use Rattle.ck_prog.specs.Declarations.{declaring_name, inside, outside, is_written}
 use Rattle.ck_prog.specs.Declaring.{after_declared, after_function_name, with_declared, with_defined, declares_function}
 use Rattle.ck_prog.specs.Derivations.{made}
-use Rattle.ck_prog.specs.Growing.{ComesAfter, AtOnce, AfterName, AfterScope}
-use Rattle.ck_prog.specs.Linking.{StorageClass, declared_as, function_declared, storage_class}
-use Rattle.ck_prog.specs.Senses.{Constancy}
+use Rattle.ck_prog.specs.Growing.{ComesAfter, AtOnce, AfterName, AfterScope, is_fitting}
+use Rattle.ck_prog.specs.Linking.{StorageClass, TypedefClass, ExternClass, StaticClass, RegisterClass, NoClass}
+use Rattle.ck_prog.specs.Linking.{declared_as, function_declared, storage_class}
+use Rattle.ck_prog.specs.Senses.{Constancy, Varying, Valueless, Known}
 use Rattle.ck_prog.specs.Sizes.{completed, next_member}
 use Rattle.ck_prog.specs.Tags.{Around, nothing_around, struct_of_body, new_struct, tag_name, tag_token, with_struct}
 use Rattle.ck_prog.specs.Tags.{with_mention, with_member, with_completion, with_enum, with_enumerator, first_value}
@@ -32,15 +36,43 @@ use Rattle.ck_prog.specs.declared.names.Defining.TheVariants.{Declares, Defines}
 -- one after another
 pub and_then : (p q r : Place) → ComesAfter p q → ComesAfter q r → ComesAfter p r
 and_then p q r c (AtOnce o) = c
-and_then p q r c (AfterName o s name at m d) = AfterName p s name at m (and_then p q s c d)
+and_then p q r c (AfterName o s name at m d fit) = AfterName p s name at m (and_then p q s c d) fit
 and_then p q r c (AfterScope o s t d e) = AfterScope p s t (and_then p q s c d) e
 
-after_one : (p : Place) (name : List ℕ) (at : Token) (m : Meaning) → ComesAfter p (declaring p name at m)
-after_one p name at m = AfterName p p name at m (AtOnce p)
+after_one : (p : Place) (name : List ℕ) (at : Token) (m : Meaning) → is_fitting m ≡ true
+    → ComesAfter p (declaring p name at m)
+after_one p name at m fit = AfterName p p name at m (AtOnce p) fit
 
-after_name : (p : Place) (name : Option Token) (m : Meaning) → ComesAfter p (declaring_name p name m)
-after_name p None m = AtOnce p
-after_name p (Some name) m = after_one p (text p name) name m
+after_name : (p : Place) (name : Option Token) (m : Meaning) → is_fitting m ≡ true
+    → ComesAfter p (declaring_name p name m)
+after_name p None m fit = AtOnce p
+after_name p (Some name) m fit = after_one p (text p name) name m fit
+
+fits_if : (b : Bool) (v : ℤ) → (b ≡ true → represents Int v ≡ true)
+    → is_fitting (Enumerator (if b then Some v else None)) ≡ true
+fits_if true v h = h refl
+fits_if false v h = refl
+
+enumerator_fits : (v : Constancy) → is_fitting (Enumerator (enumerator_value v)) ≡ true
+enumerator_fits Varying = refl
+enumerator_fits Valueless = refl
+enumerator_fits (Known v) = fits_if (represents Int v) v (λ e. e)
+
+after_constant : (p : Place) (name : Token) (v : Constancy) → ComesAfter p (with_enumerator p name v)
+after_constant p name v =
+    after_one p (text p name) name (Enumerator (enumerator_value v)) (enumerator_fits v)
+
+declared_fits : (p : Place) (class : StorageClass) (is_function initialised : Bool) (name : List ℕ)
+    (t : Option Qualified) → is_fitting (declared_as p class is_function initialised name t) ≡ true
+declared_fits p TypedefClass is_function initialised name t = refl
+declared_fits p ExternClass true initialised name t = refl
+declared_fits p ExternClass false initialised name t = refl
+declared_fits p StaticClass true initialised name t = refl
+declared_fits p StaticClass false initialised name t = refl
+declared_fits p RegisterClass true initialised name t = refl
+declared_fits p RegisterClass false initialised name t = refl
+declared_fits p NoClass true initialised name t = refl
+declared_fits p NoClass false initialised name t = refl
 
 after_if : (b : Bool) (p q : Place) → ComesAfter p q → ComesAfter p (if b then q else p)
 after_if true p q c = c
@@ -50,11 +82,11 @@ after_mention : (p : Place) (around : Around) (keyword tag : Token) → ComesAft
 after_mention p around keyword tag =
     after_if (is_written p keyword "struct" && is_new_tag p around tag) p
     (with_struct p (new_struct p around keyword (Some tag)) keyword (Some tag))
-    (after_one p (text p tag) tag (StructTag (new_struct p around keyword (Some tag))))
+    (after_one p (text p tag) tag (StructTag (new_struct p around keyword (Some tag))) refl)
 
 after_parameter : (p : Place) (d : Defining) (s : Specifiers) (name : Option Token) (t : Option Qualified)
     → ComesAfter p (with_parameter p d s name t)
-after_parameter p d s name t = after_name p name (parameter_meaning p d s t)
+after_parameter p d s name t = after_name p name (parameter_meaning p d s t) refl
 
 mutual
   pub expression_declares : (p : Place) (e : Expr) → ComesAfter p (after p e)
@@ -117,15 +149,15 @@ mutual
       let r = after_members q s members in
       let t = with_completion r s keyword tag in
       and_then p q (after_specifiers t around rest)
-      (after_one p (tag_name p keyword tag) (tag_token keyword tag) (StructTag s))
+      (after_one p (tag_name p keyword tag) (tag_token keyword tag) (StructTag s) refl)
       (and_then q r (after_specifiers t around rest) (members_declare q s members)
       (and_then r t (after_specifiers t around rest)
-      (after_one r (tag_name r keyword tag) (tag_token keyword tag) (completed r s))
+      (after_one r (tag_name r keyword tag) (tag_token keyword tag) (completed r s) refl)
       (specifiers_declare t around rest)))
   specifiers_declare p around (Enum keyword tag opening enumerators closing rest) =
       let q = with_enum p tag in
       let r = after_enumerators q first_value enumerators in
-      and_then p q (after_specifiers r around rest) (after_name p tag EnumTag)
+      and_then p q (after_specifiers r around rest) (after_name p tag EnumTag refl)
       (and_then q r (after_specifiers r around rest) (enumerators_declare q first_value enumerators)
       (specifiers_declare r around rest))
 
@@ -141,7 +173,7 @@ mutual
       let end = after_members second of rest in
       and_then p q end (specifiers_declare p nothing_around s)
       (and_then q r end (declarator_declares q d)
-      (and_then r first end (after_name r (name_of d) (Member (next_member r of t)))
+      (and_then r first end (after_name r (name_of d) (Member (next_member r of t)) refl)
       (and_then first second end (declarators_declare first of base others) (members_declare second of rest))))
 
   declarators_declare : (p : Place) (of : StructIdentity) (base : Option Qualified) (ds : Declarators)
@@ -153,27 +185,27 @@ mutual
       let first = with_member r of (name_of d) t in
       let end = after_declarators first of base rest in
       and_then p r end (declarator_declares p d)
-      (and_then r first end (after_name r (name_of d) (Member (next_member r of t)))
+      (and_then r first end (after_name r (name_of d) (Member (next_member r of t)) refl)
       (declarators_declare first of base rest))
 
   enumerators_declare : (p : Place) (v : Constancy) (es : Enumerators) → ComesAfter p (after_enumerators p v es)
-  enumerators_declare p v (LastOne name comma) = after_one p (text p name) name (Enumerator (enumerator_value v))
+  enumerators_declare p v (LastOne name comma) = after_constant p name v
   enumerators_declare p v (LastValued name equals e comma) =
       let q = after p e in
       let v = (sense p e).constancy in
       and_then p q (with_enumerator q name v) (expression_declares p e)
-      (after_one q (text q name) name (Enumerator (enumerator_value v)))
+      (after_constant q name v)
   enumerators_declare p v (One name comma rest) =
       let q = with_enumerator p name v in
       and_then p q (after_enumerators q (next_value v) rest)
-      (after_one p (text p name) name (Enumerator (enumerator_value v))) (enumerators_declare q (next_value v) rest)
+      (after_constant p name v) (enumerators_declare q (next_value v) rest)
   enumerators_declare p v (Valued name equals e comma rest) =
       let q = after p e in
       let v = (sense p e).constancy in
       let r = with_enumerator q name v in
       let end = after_enumerators r (next_value v) rest in
       and_then p q end (expression_declares p e)
-      (and_then q r end (after_one q (text q name) name (Enumerator (enumerator_value v)))
+      (and_then q r end (after_constant q name v)
       (enumerators_declare r (next_value v) rest))
 
   pub declarator_declares : (p : Place) (d : Declarator) → ComesAfter p (after_declarator p d)
@@ -226,6 +258,7 @@ after_with_declared : (p : Place) (class : StorageClass) (is_function initialise
 after_with_declared p class is_function initialised None t = AtOnce p
 after_with_declared p class is_function initialised (Some name) t =
     after_one p (text p name) name (declared_as p class is_function initialised (text p name) t)
+    (declared_fits p class is_function initialised (text p name) t)
 
 pub declared_declares : (p : Place) (class : StorageClass) (initialised : Bool) (base : Option Qualified)
     (d : Declarator) → ComesAfter p (after_declared p class initialised base d)
@@ -240,7 +273,7 @@ after_with_defined : (p : Place) (class : StorageClass) (name : Option Token) (t
     → ComesAfter p (with_defined p class name t)
 after_with_defined p class None t = AtOnce p
 after_with_defined p class (Some name) t =
-    after_one p (text p name) name (function_declared p class Defines (text p name) t)
+    after_one p (text p name) name (function_declared p class Defines (text p name) t) refl
 
 pub function_name_declares : (p : Place) (s : Specifiers) (d : Declarator) → ComesAfter p (after_function_name p s d)
 function_name_declares p s d =

@@ -9,7 +9,8 @@ use Rattle.ck_prog.specs.declared.operators.Role.{Role}
 use Rattle.ck_prog.specs.TypedTrees.{Typed, Links, Arguments, Steps, TypeParts, Facts, Name, Constant, Strings, Paren}
 use Rattle.ck_prog.specs.TypedTrees.{Postfix, Unary, SizeofType, Cast, Chain, Conditional, Assignment, NoLinks, Link}
 use Rattle.ck_prog.specs.TypedTrees.{NoArguments, Argument, NoSteps, Index, Call, Access, PostIncrement, NoParts}
-use Rattle.ck_prog.specs.TypedTrees.{Mention, StructBody, EnumeratorValue, Expression, ArraySize, WholeDeclarator, facts}
+use Rattle.ck_prog.specs.TypedTrees.{Mention, StructBody, EnumeratorValue, Expression, ArraySize, WholeDeclarator}
+use Rattle.ck_prog.specs.TypedTrees.{facts}
 
 -- a name, another value, or a call with the function that it names
 pub data Seen : Type 0 where

@@ -140,9 +140,9 @@ const_pointer = refl
 const_member : (sense_in "struct s { struct { const int a ; } b ; } ; struct s x , y ;" "x = y").type ≡ None
 const_member = refl
 
--- 6.5.3.2, 6.7.1
-register_address : (sense_in "int x ;" "& x").type ≡ Some (Pointer plain int)
-register_address = refl
+-- 6.5.3.2
+address_of_object : (sense_in "int x ;" "& x").type ≡ Some (Pointer plain int)
+address_of_object = refl
 
 -- 6.3.2.3: a null pointer constant cast again is none
 null_twice : (sense_in "int * p ;" "p = ( void * ) ( void * ) 0").type ≡ Some (Pointer plain int)
@@ -196,7 +196,8 @@ size_unknown = refl
 
 -- 6.9.1: a struct in the parameters of a function that is defined is declared twice, and is of one size
 struct_in_parameters : (sense_in
-    "int f ( struct s { int a ; } * p ) { return 0 ; } struct s { int a ; long long b ; } x ;" "sizeof x").constancy ≡ Known (pos 16)
+    "int f ( struct s { int a ; } * p ) { return 0 ; } struct s { int a ; long long b ; } x ;" "sizeof x").constancy
+    ≡ Known (pos 16)
 struct_in_parameters = refl
 
 -- 6.4.4.1, 6.4.4.4: bases, suffixes and escapes

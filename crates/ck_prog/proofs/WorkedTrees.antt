@@ -2,7 +2,8 @@
 use Rattle.std.proofs.Common.{◌≡◌, refl, pos, negsuc}
 use Rattle.std.specs.Prelude.{true, false, [], ◌∷◌, codes, Option, Some, None}
 use Rattle.ck_prog.proofs.Texts.{typed_in, after_text}
-use Rattle.ck_prog.proofs.Walks.{seen_in, undeclared, roles, calls, untyped, with_calls, sizes, enumerators, declarators}
+use Rattle.ck_prog.proofs.Walks.{seen_in, undeclared, roles, calls, untyped, with_calls, sizes, enumerators}
+use Rattle.ck_prog.proofs.Walks.{declarators}
 use Rattle.ck_prog.proofs.Walks.{parts_of}
 use Rattle.ck_graph.specs.declared.points.ActName.{ActName}
 use Rattle.ck_graph.specs.declared.points.ActName.TheVariants.{Kernel, Outside}
@@ -68,11 +69,11 @@ values_of_enumerators : enumerators (parts_of (typed_in "int x ;"
     ≡ (20, Some (negsuc 0)) ∷ (26, Some (pos 0)) ∷ (34, Some (pos 2147483647)) ∷ (47, None) ∷ (55, None) ∷ []
 values_of_enumerators = refl
 
--- 6.7.2.1, 6.7.5: a member that is an array of an incomplete type, one of a type that has no values, and a function that
--- gives an array
+-- 6.7.2.1, 6.7.5: a member that is an array of an incomplete type, one of a type that has no values, and a function
+-- that gives an array
 declarators_of_types : declarators (parts_of (typed_in "int x ;"
-    "sizeof ( struct { struct s a [ 2 ] ; void b ; int c ; int ( * d ( void ) ) [ 2 ] ; int ( * e ) ( void ) [ 2 ] ; } )"))
-    ≡ (27, true, false) ∷ (42, false, false) ∷ (50, false, true) ∷ (62, false, false) ∷ (91, true, false)
+    "sizeof ( struct { struct s a [ 2 ] ; void b ; int c ; int ( * d ( void ) ) [ 2 ] ; int e ( void ) [ 2 ] ; } )"))
+    ≡ (27, true, false) ∷ (42, false, false) ∷ (50, false, true) ∷ (62, false, false) ∷ (87, true, false)
     ∷ (9, false, false) ∷ []
 declarators_of_types = refl
 

@@ -6,7 +6,7 @@ use Rattle.ck_types.specs.IntegerTypes.{converted}
 use Rattle.ck_types.specs.declared.integer_types.IntegerType.{IntegerType}
 use Rattle.ck_types.specs.declared.operators.BinaryOperator.{BinaryOperator}
 use Rattle.ck_types.specs.declared.operators.UnaryOperator.{UnaryOperator}
-use Rattle.ck_types.specs.declared.operators.Undefined.{Undefined}
+use Rattle.ck_types.specs.declared.operators.NoValue.{NoValue}
 use Rattle.ck_types.specs.declared.operators.IntegerValue.{IntegerValue}
 use Rattle.ck_prog.specs.Senses.{Constancy, Varying, Valueless, Known, is_zero}
 
@@ -22,7 +22,7 @@ where_both_known Valueless b make = Valueless
 where_both_known (Known x) b make = where_known b (make x)
 
 -- 6.5: an operation that is undefined has no value
-abbrev pub outcome : Result IntegerValue Undefined → Constancy
+abbrev pub outcome : Result IntegerValue NoValue → Constancy
 outcome (Ok v) = Known v.value
 outcome (Err why) = Valueless
 

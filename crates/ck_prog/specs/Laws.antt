@@ -1,11 +1,14 @@
 -- Laws of names, scopes and typed trees.
-use Rattle.std.specs.Prelude.{◌≡◌, ℕ, Bool, true, List, Option, Contains, Some}
+use Rattle.std.specs.Prelude.{◌≡◌, ℕ, Bool, true, false, List, ◌++◌, Option, Contains, Some}
 use Rattle.std.specs.Str.{bytes_eq}
 use Rattle.ck_grammar.specs.Trees.{Expr, Specifiers, Declarator, Params}
+use Rattle.ck_types.specs.IntegerTypes.{represents}
+use Rattle.ck_types.specs.Types.{CType, Integer}
 use Rattle.ck_prog.specs.Declarations.{Meaning, Entry, Place, is_open, meant_in, inside, outside}
 use Rattle.ck_prog.specs.Declaring.{after_declared, after_function_name}
-use Rattle.ck_prog.specs.Growing.{ComesAfter, IsOrderly}
+use Rattle.ck_prog.specs.Growing.{ComesAfter, IsOrderly, AreFitting, AreBytes}
 use Rattle.ck_prog.specs.Linking.{StorageClass}
+use Rattle.ck_prog.specs.Senses.{Constancy, Known}
 use Rattle.ck_prog.specs.Tags.{Around}
 use Rattle.ck_prog.specs.TypeClasses.{Qualified}
 use Rattle.ck_prog.specs.TypedExpressions.{typed_expression}
@@ -41,6 +44,17 @@ pub record TreesDeclare : Type 0 where
       ComesAfter p (after_declared p class initialised base d)
   pub function_name : (p : Place) (s : Specifiers) (d : Declarator) → ComesAfter p (after_function_name p s d)
 
+-- a place after another is in its file and in its scopes, after more declarations
+pub record IsLonger (p q : Place) : Type 0 where
+  pub file_is : q.file ≡ p.file
+  pub bytes_are : q.bytes ≡ p.bytes
+  pub scope_is : q.scope ≡ p.scope
+  pub new : List Entry
+  pub declared_is : q.declared ≡ new ++ p.declared
+
+abbrev pub DeclarationsStay : Type 0
+DeclarationsStay = (p q : Place) → ComesAfter p q → IsLonger p q
+
 -- a place after an orderly one is orderly, and each file begins so
 abbrev pub StaysOrderly : Type 0
 StaysOrderly = (p q : Place) → ComesAfter p q → IsOrderly p → IsOrderly q
@@ -56,3 +70,18 @@ abbrev pub ClosingHides : Type 0
 ClosingHides =
     (space : Meaning → Bool) (p q : Place) (name : List ℕ) → ComesAfter (inside p) q
     → meant_in space (outside p q) name ≡ meant_in space p name
+
+-- the values of enumeration constants are those of `int` after a place where they are before it
+abbrev pub StaysFitting : Type 0
+StaysFitting = (p q : Place) → ComesAfter p q → AreFitting p.declared → AreFitting q.declared
+
+-- a known value is one of its expression's type, which is an integer type
+abbrev pub is_in_range : Option CType → Constancy → Bool
+is_in_range (Some (Integer t)) (Known z) = represents t z
+is_in_range _ (Known z) = false
+is_in_range _ _ = true
+
+abbrev pub KnownIsInRange : Type 0
+KnownIsInRange =
+    (p : Place) (e : Expr) → AreFitting p.declared → AreBytes p.bytes
+    → is_in_range (sense p e).type (sense p e).constancy ≡ true

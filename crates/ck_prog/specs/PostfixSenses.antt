@@ -6,10 +6,10 @@ use Rattle.ck_types.specs.Types.{NoParameters, Parameter}
 use Rattle.ck_prog.specs.AssignmentSenses.{is_assignable}
 use Rattle.ck_prog.specs.BinarySenses.{points_to_object}
 use Rattle.ck_prog.specs.Declarations.{MemberOf, Meaning, Member, Place}
-use Rattle.ck_prog.specs.Senses.{Sense, no_type, value_if, value_type, from_type, from_types}
+use Rattle.ck_prog.specs.Senses.{Sense, no_type, value_if, pointer, value_type, from_type, from_types}
 use Rattle.ck_prog.specs.Senses.{is_fixed_value, is_known}
 use Rattle.ck_prog.specs.Sizes.{is_complete, member_named}
-use Rattle.ck_prog.specs.TypeClasses.{Qualified, qualified, is_integer, is_void}
+use Rattle.ck_prog.specs.TypeClasses.{Qualified, qualified, is_integer, is_void, is_array}
 use Rattle.ck_prog.specs.UnarySenses.{target, dereference}
 
 -- 6.5.2.1: one of the two points to objects, and the other is an integer
@@ -19,8 +19,15 @@ element_by p a b t u =
     else if is_integer t && points_to_object p u then target (is_fixed_value b && is_known a.constancy) u
     else no_type
 
+-- 6.7.1: an element of a register array is a part of it
+abbrev pub is_register_array : Option CType → Sense → Bool
+is_register_array None s = false
+is_register_array (Some t) s = is_array t && s.register
+
 abbrev pub element : Place → Sense → Sense → Sense
-element p a b = record (from_types (value_type a) (value_type b) (element_by p a b)) { register = a.register }
+element p a b =
+    record (from_types (value_type a) (value_type b) (element_by p a b))
+    { register = is_register_array a.type a || is_register_array b.type b }
 
 -- 6.5.2.2: a value of a type other than `void`
 abbrev pub is_value : Option CType → Bool
@@ -48,7 +55,7 @@ abbrev pub member_of : Sense → Option Qualified → Sense
 member_of a None = no_type
 member_of a (Some m) =
     let m = qualified a.qualifiers m in
-    record a { type = Some m.type; qualifiers = m.qualifiers; null = false }
+    record (pointer m.type a.fixed) { qualifiers = m.qualifiers; lvalue = a.lvalue; register = a.register }
 
 abbrev pub member_sense : Sense → Option MemberOf → Sense
 member_sense a None = no_type

@@ -1,9 +1,8 @@
 -- The sense of an expression, what a declarator says of its name, and the place after each tree (C99 6.5, 6.7.2 to
 -- 6.7.6). These depend on each other: a size is an expression, `sizeof` takes a type, and a type may declare names.
-use Rattle.std.specs.Prelude.{ℕ, ◌+◌, Bool, true, false, List, [], ◌∷◌, ◌++◌, length, Option, Some, None, if◌then◌else◌, ℤ, pos}
+use Rattle.std.specs.Prelude.{ℕ, ◌+◌, Bool, true, false, List, [], ◌∷◌, ◌++◌, length, Option, Some, None, ℤ}
 use Rattle.ck_base.specs.declared.tokens.Token.{Token}
-use Rattle.ck_base.specs.CharacterConstants.{character_constant_value, string_values}
-use Rattle.ck_base.specs.IntegerConstants.{integer_value}
+use Rattle.ck_base.specs.CharacterConstants.{string_values}
 use Rattle.ck_grammar.specs.Trees as trees
 use Rattle.ck_grammar.specs.Trees.{Expr, Operands, Suffixes, Specifiers, Members, Declarators, Declarator, Dims, Params}
 use Rattle.ck_grammar.specs.Trees.{MoreParams, Enumerators, Name, Constant, Strings, Paren, Postfix, Unary, SizeofType}
@@ -13,7 +12,7 @@ use Rattle.ck_grammar.specs.Trees.{Struct, Enum, NoMembers, NoDeclarators, Also,
 use Rattle.ck_grammar.specs.Trees.{Sized, Function, NoParams, VoidParams, Parameters, NoMore, Ellipsis, More}
 use Rattle.ck_grammar.specs.Trees.{LastOne, LastValued, One, Valued}
 use Rattle.ck_types.specs.Types.{StructIdentity, CType, Integer, Array, NoParameters}
-use Rattle.ck_types.specs.declared.integer_types.IntegerType.{IntegerType}
+use Rattle.ck_types.specs.declared.operators.IntegerValue.{IntegerValue}
 use Rattle.ck_prog.specs.AssignmentSenses.{assignment_sense, choice_sense}
 use Rattle.ck_prog.specs.BaseTypes.{base_type}
 use Rattle.ck_prog.specs.BinarySenses.{binary_sense}
@@ -22,7 +21,7 @@ use Rattle.ck_prog.specs.Declarations.{inside, outside, meaning_of}
 use Rattle.ck_prog.specs.Derivations.{Derivation, OpenArray, SizedArray, FunctionOf, made, pointers, Signature}
 use Rattle.ck_prog.specs.Derivations.{no_parameters, with_first_type, with_next_type}
 use Rattle.ck_prog.specs.Linking.{unqualified_type}
-use Rattle.ck_prog.specs.Literals.{type_of_constant, is_character}
+use Rattle.ck_prog.specs.Literals.{constant}
 use Rattle.ck_prog.specs.Operators.{operator, prefix, assigning}
 use Rattle.ck_prog.specs.PostfixSenses.{element, result, access}
 use Rattle.ck_prog.specs.Senses.{Sense, Constancy, Valueless, Known, no_type, integer, pointer}
@@ -70,16 +69,13 @@ meaning_sense _ = no_type
 abbrev pub name_sense : Place → Token → Sense
 name_sense p t = meaning_sense (meaning_of (meant p (text p t)))
 
--- 6.4.4.1
-abbrev pub number_sense : Option IntegerType → ℕ → Sense
-number_sense None v = no_type
-number_sense (Some t) v = integer (Integer t) (Known (pos v))
+-- 6.4.4
+abbrev pub value_sense : Option IntegerValue → Sense
+value_sense None = no_type
+value_sense (Some v) = integer (Integer v.of) (Known v.value)
 
--- 6.4.4.4
 abbrev pub constant_sense : Place → Token → Sense
-constant_sense p t =
-    if is_character (text p t) then integer int (Known (pos (character_constant_value (text p t))))
-    else number_sense (type_of_constant (text p t)) (integer_value (text p t))
+constant_sense p t = value_sense (constant (text p t))
 
 -- 6.4.5: the characters of neighbouring literals, and one of value 0
 abbrev pub all_characters : Place → List Token → ℕ

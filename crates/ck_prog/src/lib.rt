@@ -13,7 +13,8 @@ mod names;
 mod operators;
 
 pub use laws::{
-    closing_hides, means_open_entry, opening_shows, stays_orderly, trees_declare, typed_keeps_sense,
+    closing_hides, declarations_stay, known_is_in_range, means_open_entry, opening_shows,
+    stays_fitting, stays_orderly, trees_declare, typed_keeps_sense,
 };
 pub use names::{Defining, Linkage, Storage};
 pub use operators::{Assigning, Operator, Prefix, Role};

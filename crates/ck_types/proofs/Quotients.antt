@@ -5,9 +5,9 @@ use Rattle.std.specs.Int.RustNames.{int_div}
 use Rattle.std.specs.Ordering.{int_eq}
 use Rattle.ck_types.specs.Arithmetic.{where_represented, with_quotient}
 use Rattle.ck_types.specs.declared.integer_types.IntegerType.{IntegerType}
-use Rattle.ck_types.specs.declared.operators.Undefined.{Undefined}
+use Rattle.ck_types.specs.declared.operators.NoValue.{NoValue}
 
-pub with_quotient-nonzero : (t : IntegerType) (x y r q o : ℤ) (s : Result ℤ Undefined) → s ≡ where_represented t q o
+pub with_quotient-nonzero : (t : IntegerType) (x y r q o : ℤ) (s : Result ℤ NoValue) → s ≡ where_represented t q o
     → int_eq y (pos 0) ≡ false → q ≡ int_div x y → o ≡ r → s ≡ with_quotient t x y r
 with_quotient-nonzero t x y r q o s e n i j = rw (e, i, j, n) refl
 

@@ -1,7 +1,7 @@
 -- Worked rows, computed on the definitions.
 use Rattle.std.proofs.Common.{◌≡◌, refl, Ok, Err, ℤ, pos, negsuc}
-use Rattle.std.specs.Prelude.{Some, None, true, false}
-use Rattle.ck_types.specs.IntegerConstants.{constant_type}
+use Rattle.std.specs.Prelude.{Some, None, true, false, codes}
+use Rattle.ck_types.specs.ConstantTypes.{character_constant, constant_type, integer_constant}
 use Rattle.ck_types.specs.declared.constants.Suffix.TheVariants as suffixes
 use Rattle.ck_types.specs.Arithmetic.{binary, unary}
 use Rattle.ck_types.specs.IntegerTypes.{converted, common, promoted, greatest, least}
@@ -9,7 +9,7 @@ use Rattle.ck_types.specs.declared.integer_types.IntegerType.{IntegerType}
 use Rattle.ck_types.specs.declared.integer_types.IntegerType.TheVariants as types
 use Rattle.ck_types.specs.declared.operators.BinaryOperator.TheVariants as operators
 use Rattle.ck_types.specs.declared.operators.UnaryOperator.TheVariants as unaries
-use Rattle.ck_types.specs.declared.operators.Undefined.TheVariants as why
+use Rattle.ck_types.specs.declared.operators.NoValue.TheVariants as why
 use Rattle.ck_types.specs.declared.operators.IntegerValue.{IntegerValue}
 
 abbrev pub as_type : IntegerType → ℤ → IntegerValue
@@ -70,7 +70,7 @@ sign_of_dividend : binary operators.Remainder (as_type types.Int (negsuc 6)) (as
     ≡ Ok (as_type types.Int (negsuc 0))
 sign_of_dividend = refl
 
-by_zero : binary operators.Divide (as_type types.Int (pos 1)) (as_type types.Int (pos 0)) ≡ Err why.DivideByZero
+by_zero : binary operators.Divide (as_type types.Int (pos 1)) (as_type types.Int (pos 0)) ≡ Err why.DivisionByZero
 by_zero = refl
 
 least_by_minus_one : binary operators.Remainder (as_type types.Int (least types.Int)) (as_type types.Int (negsuc 0))
@@ -142,3 +142,40 @@ long_constant = refl
 
 no_type : constant_type true suffixes.Nothing 9223372036854775808 ≡ None
 no_type = refl
+
+-- constants by their bytes
+octal_constant : integer_constant (codes "037777777777") ≡ Some (as_type types.UnsignedInt (pos 4294967295))
+unfolding integer_constant
+octal_constant = refl
+
+suffixed_constant : integer_constant (codes "7Lu") ≡ Some (as_type types.UnsignedLong (pos 7))
+unfolding integer_constant
+suffixed_constant = refl
+
+long_long_constant : integer_constant (codes "0x10LL") ≡ Some (as_type types.LongLong (pos 16))
+unfolding integer_constant
+long_long_constant = refl
+
+plain_zero : integer_constant (codes "0") ≡ Some (as_type types.Int (pos 0))
+unfolding integer_constant
+plain_zero = refl
+
+no_constant : integer_constant (codes "18446744073709551616u") ≡ None
+unfolding integer_constant
+no_constant = refl
+
+no_octal : integer_constant (codes "08") ≡ None
+unfolding integer_constant
+no_octal = refl
+
+escaped_constant : character_constant (codes "'\\xff'") ≡ Some (as_type types.Int (pos 255))
+unfolding character_constant
+escaped_constant = refl
+
+bell_constant : character_constant (codes "'\\a'") ≡ Some (as_type types.Int (pos 7))
+unfolding character_constant
+bell_constant = refl
+
+no_character : character_constant (codes "''") ≡ None
+unfolding character_constant
+no_character = refl

@@ -1,6 +1,6 @@
-//! The types of integer constants (C99 6.4.4.1).
+//! The types of integer constants, by base, suffix and value (C99 6.4.4.1).
 ghost use Rattle.std.specs.Prelude.{◌≡◌};
-ghost use Rattle.ck_types.specs.IntegerConstants as spec;
+ghost use Rattle.ck_types.specs.ConstantTypes as spec;
 
 use crate::integer_types::IntegerType;
 use crate::integer_types::IntegerType::{

@@ -1,6 +1,6 @@
 //! Laws about the definitions, each the contract of a function that does nothing.
 ghost use Rattle.ck_types.specs.Compatibility.{IsReflexive, IsSymmetric};
-ghost use Rattle.ck_types.specs.Ranges.{ConvertsIntoRange, ConvertsToItself};
+ghost use Rattle.ck_types.specs.Ranges.{BinaryIsInRange, ConvertsIntoRange, ConvertsToItself, UnaryIsInRange};
 
 /// A converted value is in the range of its type.
 pub fn converts_into_range()
@@ -10,6 +10,12 @@ pub fn converts_into_range()
 /// A value that a type can represent stays when it is converted to it.
 pub fn converts_to_itself()
     ensures { ConvertsToItself }
+{}
+
+/// What an operator makes of values is in the range of its type.
+pub fn operators_stay_in_range()
+    ensures binary { BinaryIsInRange }
+    ensures unary { UnaryIsInRange }
 {}
 
 /// Each type is compatible with itself.

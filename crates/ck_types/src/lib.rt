@@ -9,14 +9,18 @@
 //! It must not know: names, scopes, trees, and where a value is kept.
 #![tactic(auto)]
 
+mod characters;
 mod constants;
 mod integer_types;
 mod laws;
+mod literals;
 mod operators;
 
 pub use constants::{Suffix, constant_type};
 pub use integer_types::IntegerType;
 pub use laws::{
     compatible_is_reflexive, compatible_is_symmetric, converts_into_range, converts_to_itself,
+    operators_stay_in_range,
 };
-pub use operators::{BinaryOperator, IntegerValue, UnaryOperator, Undefined};
+pub use literals::{character_constant, integer_constant};
+pub use operators::{BinaryOperator, IntegerValue, NoValue, UnaryOperator};

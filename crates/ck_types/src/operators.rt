@@ -1,10 +1,10 @@
 //! What operators make of values of integer types (C99 6.5.3.3, 6.5.5 to 6.5.12).
-ghost use Rattle.std.specs.Prelude.{◌≡◌, ◌^◌, true, false, pos, ◌<◌, ◌≤◌, ◌≤ℤ◌, ◌<ℤ◌, int_div, int_rem, unsigned_abs};
+ghost use Rattle.std.specs.Prelude.{◌≡◌, ◌^◌, true, false, pos, ◌<◌, ◌≤◌, ◌≤ℤ◌, ◌<ℤ◌, int_div, int_rem, unsigned_abs, IfOk};
 ghost use Rattle.std.specs.Ordering.{int_eq};
 ghost use lib.IntN.{◌+ℤ◌, ◌-ℤ◌, ◌*ℤ◌};
 ghost use Rattle.ck_types.specs.Arithmetic as spec;
 ghost use Rattle.ck_types.specs.IntegerTypes as types;
-ghost use Rattle.ck_types.specs.Ranges.{IsValue};
+ghost use Rattle.ck_types.specs.Ranges.{IsInRange, IsValue};
 
 use crate::integer_types::IntegerType;
 
@@ -61,9 +61,9 @@ pub enum UnaryOperator {
 
 /// Why an operation is undefined.
 #[derive(Clone, Copy, Debug, PartialEq, Eq)]
-pub enum Undefined {
+pub enum NoValue {
     /// `/` or `%` by 0.
-    DivideByZero,
+    DivisionByZero,
     /// A signed result, or the quotient beside `%`, that its type can't represent; a negative value shifted to the left.
     SignedOverflow,
     /// A negative shift count, or one that isn't below the width of the promoted left operand.
@@ -82,8 +82,9 @@ pub struct IntegerValue {
 impl BinaryOperator {
     /// What the operator makes of two values, which it converts first as C does: the result with its type, or why there is
     /// none.
-    pub fn apply(self, left: IntegerValue, right: IntegerValue) -> Result<IntegerValue, Undefined>
-        ensures { result ≡ spec.binary self left right }
+    pub fn apply(self, left: IntegerValue, right: IntegerValue) -> Result<IntegerValue, NoValue>
+        ensures value { result ≡ spec.binary self left right }
+        ensures range { IfOk result IsInRange }
     {
         let left_type = self.left_type(left.of, right.of);
         let x = left_type.convert(left.value);
@@ -150,7 +151,7 @@ impl BinaryOperator {
     }
 
     /// What it makes of converted operands, the left one of type `of`.
-    fn combine(self, of: IntegerType, x: i128, y: i128) -> Result<i128, Undefined>
+    fn combine(self, of: IntegerType, x: i128, y: i128) -> Result<i128, NoValue>
         requires left { types.represents of x ≡ true }
         requires right { spec.is_shift self ≡ false → types.represents of y ≡ true }
         ensures { result ≡ spec.combined self of x y }
@@ -178,8 +179,9 @@ impl BinaryOperator {
 
 impl UnaryOperator {
     /// What the operator makes of a value, which it promotes first: the result with its type, or why there is none.
-    pub fn apply(self, operand: IntegerValue) -> Result<IntegerValue, Undefined>
-        ensures { result ≡ spec.unary self operand }
+    pub fn apply(self, operand: IntegerValue) -> Result<IntegerValue, NoValue>
+        ensures value { result ≡ spec.unary self operand }
+        ensures range { IfOk result IsInRange }
     {
         let promoted = operand.of.promoted();
         let changed = self.change(promoted, promoted.convert(operand.value));
@@ -197,7 +199,7 @@ impl UnaryOperator {
     }
 
     /// What it makes of a promoted operand of type `of`.
-    fn change(self, of: IntegerType, x: i128) -> Result<i128, Undefined>
+    fn change(self, of: IntegerType, x: i128) -> Result<i128, NoValue>
         requires { types.represents of x ≡ true }
         ensures { result ≡ spec.changed self of x }
     {
@@ -211,7 +213,7 @@ impl UnaryOperator {
 }
 
 /// A result in a type.
-fn in_type(of: IntegerType, value: i128) -> Result<i128, Undefined>
+fn in_type(of: IntegerType, value: i128) -> Result<i128, NoValue>
     ensures { result ≡ spec.in_type of value }
 {
     if of.is_signed() {
@@ -222,7 +224,7 @@ fn in_type(of: IntegerType, value: i128) -> Result<i128, Undefined>
 }
 
 /// A product. Two values of 64 bits without a sign have one of 128, which no signed number holds.
-fn multiply(of: IntegerType, x: i128, y: i128) -> Result<i128, Undefined>
+fn multiply(of: IntegerType, x: i128, y: i128) -> Result<i128, NoValue>
     requires left { types.represents of x ≡ true }
     requires right { types.represents of y ≡ true }
     ensures { result ≡ spec.in_type of (x *ℤ y) }
@@ -235,39 +237,39 @@ fn multiply(of: IntegerType, x: i128, y: i128) -> Result<i128, Undefined>
 }
 
 /// A quotient in a type.
-fn divide(of: IntegerType, x: i128, y: i128) -> Result<i128, Undefined>
+fn divide(of: IntegerType, x: i128, y: i128) -> Result<i128, NoValue>
     requires left { IsValue x }
     requires right { IsValue y }
     ensures { result ≡ spec.with_quotient of x y (int_div x y) }
 {
     if y == 0 {
-        Err(Undefined::DivideByZero)
+        Err(NoValue::DivisionByZero)
     } else {
         where_represented(of, quotient(x, y), quotient(x, y))
     }
 }
 
 /// The remainder beside a quotient in a type.
-fn take_remainder(of: IntegerType, x: i128, y: i128) -> Result<i128, Undefined>
+fn take_remainder(of: IntegerType, x: i128, y: i128) -> Result<i128, NoValue>
     requires left { IsValue x }
     requires right { IsValue y }
     ensures { result ≡ spec.with_quotient of x y (int_rem x y) }
 {
     if y == 0 {
-        Err(Undefined::DivideByZero)
+        Err(NoValue::DivisionByZero)
     } else {
         where_represented(of, quotient(x, y), remainder(x, y))
     }
 }
 
 /// A result, where a value is one that the type can represent.
-fn where_represented(of: IntegerType, value: i128, outcome: i128) -> Result<i128, Undefined>
+fn where_represented(of: IntegerType, value: i128, outcome: i128) -> Result<i128, NoValue>
     ensures { result ≡ spec.where_represented of value outcome }
 {
     if of.represents(value) {
         Ok(outcome)
     } else {
-        Err(Undefined::SignedOverflow)
+        Err(NoValue::SignedOverflow)
     }
 }
 
@@ -279,33 +281,33 @@ fn is_shift_count(of: IntegerType, count: i128) -> bool
 }
 
 /// A value shifted to the left.
-fn shift_left(of: IntegerType, x: i128, count: i128) -> Result<i128, Undefined>
+fn shift_left(of: IntegerType, x: i128, count: i128) -> Result<i128, NoValue>
     requires { types.represents of x ≡ true }
     ensures { result ≡ spec.shifted_left of x count }
 {
     if !is_shift_count(of, count) {
-        Err(Undefined::BadShift)
+        Err(NoValue::BadShift)
     } else if x < 0 {
-        Err(Undefined::SignedOverflow)
+        Err(NoValue::SignedOverflow)
     } else {
         in_type(of, product(x, power_of_two(count)))
     }
 }
 
 /// A value shifted to the right.
-fn shift_right(of: IntegerType, x: i128, count: i128) -> Result<i128, Undefined>
+fn shift_right(of: IntegerType, x: i128, count: i128) -> Result<i128, NoValue>
     requires { types.represents of x ≡ true }
     ensures { result ≡ spec.shifted_right of x count }
 {
     if is_shift_count(of, count) {
         Ok(x.div_euclid(power_of_two(count)))
     } else {
-        Err(Undefined::BadShift)
+        Err(NoValue::BadShift)
     }
 }
 
 /// A result with its type.
-fn typed(of: IntegerType, outcome: Result<i128, Undefined>) -> Result<IntegerValue, Undefined>
+fn typed(of: IntegerType, outcome: Result<i128, NoValue>) -> Result<IntegerValue, NoValue>
     ensures { result ≡ spec.typed of outcome }
 {
     match outcome {
