@@ -16,4 +16,10 @@ mod Walks
 mod Worked
 mod WorkedTrees
 mod ProjectTexts
-mod WorkedProjects
+mod WorkedNames
+mod WorkedLinks
+mod WorkedConstants
+mod WorkedTypes
+mod WorkedFunctions
+mod WorkedBodies
+mod WorkedSettings

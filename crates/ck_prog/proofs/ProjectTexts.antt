@@ -1,6 +1,7 @@
--- How whole projects are stated: a text for each file, with one blank between two tokens; `@` stands before the token at
+-- How whole projects are stated: for each file its lines, with one blank between two tokens; `@` stands before the token at
 -- which the project is refused. For worked texts alone.
-use Rattle.std.specs.Prelude.{ℕ, suc, ◌+◌, ◌==◌, Bool, true, false, List, [], ◌∷◌, length, map, codes, Option, Some, None}
+use Rattle.std.proofs.Common.{◌≡◌}
+use Rattle.std.specs.Prelude.{ℕ, suc, ◌+◌, Bool, List, [], ◌∷◌, ◌++◌, length, codes, Option, Some, None}
 use Rattle.std.specs.Prelude.{if◌then◌else◌}
 use Rattle.std.specs.List.{join_with_byte}
 use Rattle.std.specs.Option.{option_map}
@@ -11,16 +12,32 @@ use Rattle.ck_grammar.specs.ReadingStatements.{file_at}
 use Rattle.ck_grammar.specs.Statements.{External}
 use Rattle.ck_grammar.specs.Words.{words}
 use Rattle.ck_prog.specs.Refused.{RefusedAt, refused, first_refused, linking, typing}
-use Rattle.ck_prog.specs.TypedFiles.{ReadFile}
+use Rattle.ck_prog.specs.SettingsNames.{NamesNothing, names_nothing}
+use Rattle.ck_prog.specs.TypedFiles.{ReadFile, declarations}
 use Rattle.ck_prog.proofs.Texts.{tokens_from}
 use Prim.Native.String.{String}
 
+-- the names in a project's settings
+pub record Named : Type 0 where
+  pub vectors : List (List ℕ)
+  pub callbacks : List (List ℕ × List ℕ)
+  pub functions : List (List ℕ)
+
+abbrev pub nothing_named : Named
+nothing_named = record { vectors = []; callbacks = []; functions = [] }
+
 pub data Answer : Type 0 where
-  Accepted : Answer
+  AcceptedProject : Answer
   -- at this offset of this file
-  Refuses : Unsupported → ℕ → ℕ → Answer
+  RefusedProject : Unsupported → ℕ → ℕ → Answer
+  MissingName : NamesNothing → Answer
   -- a file is none of the grammar
   Unread : Answer
+
+-- texts ----------------------------------------------------------------------------------------------------------------
+
+abbrev pub File : Type 0
+File = List String
 
 abbrev is_mark : List ℕ → Bool
 is_mark text = bytes_eq text (codes "@")
@@ -34,52 +51,70 @@ abbrev marked_from : ℕ → List (List ℕ) → Option ℕ
 marked_from start [] = None
 marked_from start (text ∷ texts) = if is_mark text then Some start else marked_from (suc (start + length text)) texts
 
-abbrev bytes_of : String → List ℕ
-bytes_of line = join_with_byte 32 (without_mark (words line))
+abbrev words_of : File → List (List ℕ)
+words_of [] = []
+words_of (line ∷ lines) = words line ++ words_of lines
 
-abbrev with_bytes : String → List External → ReadFile
-with_bytes line xs = record { bytes = bytes_of line; externals = xs }
+abbrev with_bytes : List ℕ → List External → ReadFile
+with_bytes bytes xs = record { bytes = bytes; externals = xs }
 
-abbrev read : ℕ → String → Option ReadFile
-read k line = option_map (with_bytes line) (file_at (bytes_of line) (tokens_from k 0 (without_mark (words line))))
+abbrev read_words : ℕ → List (List ℕ) → Option ReadFile
+read_words k texts =
+    let bytes = join_with_byte 32 texts in option_map (with_bytes bytes) (file_at bytes (tokens_from k 0 texts))
 
 abbrev with_first : Option ReadFile → Option (List ReadFile) → Option (List ReadFile)
 with_first (Some f) (Some fs) = Some (f ∷ fs)
 with_first _ _ = None
 
-abbrev read_from : ℕ → List String → Option (List ReadFile)
+abbrev read_from : ℕ → List File → Option (List ReadFile)
 read_from k [] = Some []
-read_from k (line ∷ lines) = with_first (read k line) (read_from (suc k) lines)
+read_from k (f ∷ fs) = with_first (read_words k (without_mark (words_of f))) (read_from (suc k) fs)
 
-abbrev as_answer : Option RefusedAt → Answer
-as_answer None = Accepted
-as_answer (Some r) = Refuses r.number r.at.span.file r.at.span.start
+-- answers --------------------------------------------------------------------------------------------------------------
 
-abbrev or_then : Option RefusedAt → Option RefusedAt → Option RefusedAt
-or_then None later = later
-or_then (Some r) later = Some r
+abbrev refused_or : Option RefusedAt → Answer → Answer
+refused_or None later = later
+refused_or (Some r) later = RefusedProject r.number r.at.span.file r.at.span.start
 
--- where the settings name these functions
-abbrev answer_of : List (List ℕ) → Option (List ReadFile) → Answer
-answer_of outside None = Unread
-answer_of outside (Some files) =
-    as_answer (or_then (first_refused (refused linking outside files)) (first_refused (refused typing outside files)))
+abbrev missing_or : Option NamesNothing → Answer → Answer
+missing_or None later = later
+missing_or (Some name) later = MissingName name
 
-abbrev pub answer_with : List (List ℕ) → List String → Answer
-answer_with outside lines = answer_of outside (read_from 0 lines)
+-- first the files are linked, then the names of the settings are looked up, then the files are typed
+abbrev answer_of : Named → Option (List ReadFile) → Answer
+answer_of named None = Unread
+answer_of named (Some files) =
+    refused_or (first_refused (refused linking named.functions files))
+    (missing_or (names_nothing (declarations files) named.vectors named.callbacks)
+    (refused_or (first_refused (refused typing named.functions files)) AcceptedProject))
 
-abbrev pub answer : List String → Answer
-answer lines = answer_with [] lines
+abbrev pub answer : Named → List File → Answer
+answer named files = answer_of named (read_from 0 files)
 
--- at the mark
-abbrev or_later : Unsupported → ℕ → Option ℕ → Answer → Answer
-or_later number k (Some start) later = Refuses number k start
-or_later number k None later = later
+abbrev refused_at_or : Unsupported → ℕ → Option ℕ → Answer → Answer
+refused_at_or number k (Some start) later = RefusedProject number k start
+refused_at_or number k None later = later
 
-abbrev at_mark_from : Unsupported → ℕ → List String → Answer
-at_mark_from number k [] = Accepted
-at_mark_from number k (line ∷ lines) =
-    or_later number k (marked_from 0 (words line)) (at_mark_from number (suc k) lines)
+abbrev at_mark_from : Unsupported → ℕ → List File → Answer
+at_mark_from number k [] = AcceptedProject
+at_mark_from number k (f ∷ fs) =
+    refused_at_or number k (marked_from 0 (words_of f)) (at_mark_from number (suc k) fs)
 
-abbrev pub at_mark : Unsupported → List String → Answer
-at_mark number lines = at_mark_from number 0 lines
+-- statements -----------------------------------------------------------------------------------------------------------
+
+-- these files are accepted; they are refused by this number at the mark; so with these names in the settings
+abbrev pub Accepted : List File → Type 0
+Accepted files = answer nothing_named files ≡ AcceptedProject
+
+abbrev pub AcceptedWith : Named → List File → Type 0
+AcceptedWith named files = answer named files ≡ AcceptedProject
+
+abbrev pub Refused : Unsupported → List File → Type 0
+Refused number files = answer nothing_named files ≡ at_mark_from number 0 files
+
+abbrev pub RefusedWith : Named → Unsupported → List File → Type 0
+RefusedWith named number files = answer named files ≡ at_mark_from number 0 files
+
+-- a name of the settings names nothing
+abbrev pub Missing : Named → NamesNothing → List File → Type 0
+Missing named name files = answer named files ≡ MissingName name

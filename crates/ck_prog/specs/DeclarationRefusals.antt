@@ -221,7 +221,9 @@ is_other_struct e _ before = false
 
 abbrev pub is_different : Entry → List Entry → Bool
 is_different e before =
-    differs e before || is_no_call (kernel_call e.name) e.meaning || is_other_struct e e.meaning before
+    differs e before
+    || (kernel_name e.name && is_no_call (kernel_call e.name) e.meaning)
+    || is_other_struct e e.meaning before
 
 -- U12: kernel name defined ---------------------------------------------------------------------------------------------
 
