@@ -23,3 +23,4 @@ mod WorkedTypes
 mod WorkedFunctions
 mod WorkedBodies
 mod WorkedSettings
+mod WorkedFirmware

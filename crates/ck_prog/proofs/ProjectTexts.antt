@@ -115,6 +115,10 @@ Refused number files = answer nothing_named files ≡ at_mark_from number 0 file
 abbrev pub RefusedWith : Named → Unsupported → List File → Type 0
 RefusedWith named number files = answer named files ≡ at_mark_from number 0 files
 
+-- some file is none of the grammar
+abbrev pub OutsideGrammar : List File → Type 0
+OutsideGrammar files = answer nothing_named files ≡ Unread
+
 -- a name of the settings names nothing
 abbrev pub Missing : Named → NamesNothing → List File → Type 0
 Missing named name files = answer named files ≡ MissingName name
