@@ -24,3 +24,5 @@ mod WorkedFunctions
 mod WorkedBodies
 mod WorkedSettings
 mod WorkedFirmware
+mod BodiesDeclare
+mod FirstRefused

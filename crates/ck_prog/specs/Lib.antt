@@ -39,3 +39,4 @@ pub mod Paths
 pub mod Calls
 pub mod Slots
 pub mod SettingsNames
+pub mod BodyLaws

@@ -1,10 +1,12 @@
 -- What is refused of a project: U8 to U13 when files are linked, then U14 to U19 and U26 when they are typed; each is one
 -- test on one sight, or on one declaration beside those before it. The first one by file, then by offset, then by number
 -- is told.
-use Rattle.std.specs.Prelude.{ℕ, Bool, true, false, ◌&&◌, ◌||◌, ◌==◌, not, nat_lt, List, [], ◌∷◌, ◌++◌, Option, Some, None}
+use Rattle.std.specs.Prelude.{ℕ, Bool, true, false, ◌&&◌, ◌||◌, not, List, [], ◌∷◌, ◌++◌, Option, Some, None}
 use Rattle.std.specs.Prelude.{if◌then◌else◌}
 use Rattle.std.specs.List.{list_any}
+use Rattle.std.specs.Cmp.Lexicographic.{slice_cmp}
 use Rattle.std.specs.Option.{is_some}
+use Rattle.std.specs.Ordering.{is_lt, nat_cmp}
 use Rattle.ck_base.specs.Refusals.{refusal_number}
 use Rattle.ck_base.specs.declared.refusals.Unsupported.{Unsupported}
 use Rattle.ck_base.specs.declared.refusals.Unsupported.TheVariants.{U8, U9, U10, U11, U12, U13, U14, U15, U16, U17, U18}
@@ -148,12 +150,12 @@ of_entries k numbers (e ∷ before) = of_entry k numbers e before (of_entries k 
 
 -- the first of them ----------------------------------------------------------------------------------------------------
 
+-- by file, then by offset, then by number
+abbrev pub rank_of : RefusedAt → List ℕ
+rank_of r = r.at.span.file ∷ r.at.span.start ∷ refusal_number r.number ∷ []
+
 abbrev pub comes_before : RefusedAt → RefusedAt → Bool
-comes_before r s =
-    nat_lt r.at.span.file s.at.span.file
-    || (r.at.span.file == s.at.span.file
-    && (nat_lt r.at.span.start s.at.span.start
-    || (r.at.span.start == s.at.span.start && nat_lt (refusal_number r.number) (refusal_number s.number))))
+comes_before r s = is_lt (slice_cmp nat_cmp (rank_of r) (rank_of s))
 
 abbrev pub earlier : RefusedAt → Option RefusedAt → Option RefusedAt
 earlier r None = Some r

@@ -86,7 +86,8 @@ typed_function p opening s d is =
 
 abbrev pub after_external : Place → External → Place
 after_external p (tree.FileDeclaration d) = after_declaration p d
-after_external p (tree.FunctionDefinition s d opening is closing) = outside p (after_items (at_body p s d) is)
+after_external p (tree.FunctionDefinition s d opening is closing) =
+    outside (after_function_name p s d) (after_items (at_body p s d) is)
 
 abbrev pub typed_external : Place → External → TypedExternal
 typed_external p (tree.FileDeclaration d) = FileDeclaration (typed_declaration p d)
