@@ -26,3 +26,4 @@ mod WorkedSettings
 mod WorkedFirmware
 mod BodiesDeclare
 mod FirstRefused
+mod WorkedCorners
