@@ -1,33 +1,37 @@
 -- The place after an initialiser, a declaration, a statement or a file comes after the place before it.
-use Rattle.std.specs.Prelude.{ℕ, Bool, true, false, List, [], ◌∷◌, Option, Some, None}
+use Rattle.std.specs.Prelude.{Bool, true, false, List, [], ◌∷◌, Option, Some, None}
 use Rattle.std.proofs.Common.{refl}
-use Rattle.ck_base.specs.declared.tokens.Token.{Token}
 use Rattle.ck_grammar.specs.Statements as tree
-use Rattle.ck_grammar.specs.Statements.{Designators, Init, Inits, Declared, MoreDeclared, Declaration, ForStart, Statement}
-use Rattle.ck_grammar.specs.Statements.{BlockItems, External, Equals, DotName, AtIndex, Value, Braced, LastInit, NextInit}
+use Rattle.ck_grammar.specs.Statements.{Designators, Init, Inits, Declared, MoreDeclared, Declaration, ForStart}
+use Rattle.ck_grammar.specs.Statements.{Statement}
+use Rattle.ck_grammar.specs.Statements.{BlockItems, External, Equals, DotName, AtIndex, Value, Braced, LastInit}
+use Rattle.ck_grammar.specs.Statements.{NextInit}
 use Rattle.ck_grammar.specs.Statements.{Plainly, Initialised, NoMoreDeclared, AndPlainly, AndInitialised, Bare}
 use Rattle.ck_grammar.specs.Statements.{StartEmpty, StartExpr, StartDeclaration, Block, Empty, ExpressionStatement, If}
 use Rattle.ck_grammar.specs.Statements.{IfElse, Switch, While, Do, For, Case, Default, Goto, Jump, Return, ReturnValue}
 use Rattle.ck_grammar.specs.Statements.{NoBlockItems, DeclarationItem, StatementItem, FileDeclaration}
 use Rattle.ck_grammar.specs.Statements.{FunctionDefinition}
-use Rattle.ck_grammar.specs.Trees.{Expr, Specifiers, Declarator}
+use Rattle.ck_grammar.specs.Trees.{Expr, Declarator}
 use Rattle.ck_prog.specs.Declarations.{Label, Place, text, inside, outside}
-use Rattle.ck_prog.specs.Declaring.{alone, around_by, after_first_specifiers, after_function_name, defined_params, at_body}
+use Rattle.ck_prog.specs.Declaring.{alone, around_by, after_first_specifiers, after_function_name, defined_params}
+use Rattle.ck_prog.specs.Declaring.{at_body}
 use Rattle.ck_prog.specs.Declaring.{declares_function}
-use Rattle.ck_prog.specs.Growing.{ComesAfter, AtOnce, AfterName, AfterScope}
+use Rattle.ck_prog.specs.Growing.{ComesAfter, AtOnce, AfterScope}
 use Rattle.ck_prog.specs.Linking.{storage_class}
 use Rattle.ck_prog.specs.TypeClasses.{Qualified}
-use Rattle.ck_prog.specs.TypedDeclarations.{Specified, specified, own_type, size_by, declared_at, resized_at, after_plain}
+use Rattle.ck_prog.specs.TypedDeclarations.{Specified, specified, own_type, size_by, declared_at, resized_at}
+use Rattle.ck_prog.specs.TypedDeclarations.{after_plain}
 use Rattle.ck_prog.specs.TypedDeclarations.{at_initialiser, after_initialised, after_more, after_all, after_declaration}
 use Rattle.ck_prog.specs.TypedFiles.{after_external, after_externals}
 use Rattle.ck_prog.specs.TypedInitialisers.{after_designators, after_designation, after_initialiser, after_initialisers}
 use Rattle.ck_prog.specs.TypedStatements.{after_maybe, after_start, at_for, with_label, after_statement, after_items}
-use Rattle.ck_prog.specs.Typing.{after, after_specifiers, after_declarator, after_params, derivations, name_of}
+use Rattle.ck_prog.specs.Typing.{after, after_declarator, after_params, derivations, name_of}
 use Rattle.ck_prog.specs.declared.names.Defining.TheVariants.{Defines}
-use Rattle.ck_prog.proofs.TreesDeclare.{and_then, after_one, expression_declares, specifiers_declare, declarator_declares}
+use Rattle.ck_prog.proofs.TreesDeclare.{and_then, after_one, expression_declares, specifiers_declare}
+use Rattle.ck_prog.proofs.TreesDeclare.{declarator_declares}
 use Rattle.ck_prog.proofs.TreesDeclare.{params_declare, after_with_declared, function_name_declares}
 
--- initialisers ---------------------------------------------------------------------------------------------------------
+-- initialisers -------------------------------------------------------------------------------------------------------
 
 designators_declare : (p : Place) (ds : Designators) → ComesAfter p (after_designators p ds)
 designators_declare p (Equals equals) = AtOnce p
@@ -55,7 +59,7 @@ mutual
       and_then p q (after_initialisers r rest) (designation_declares p ds)
       (and_then q r (after_initialisers r rest) (initialiser_declares q i) (initialisers_declare r rest))
 
--- declarations ---------------------------------------------------------------------------------------------------------
+-- declarations -------------------------------------------------------------------------------------------------------
 
 at_declares : (p q : Place) (b : Specified) (initialised : Bool) (d : Declarator) (t : Option Qualified)
     → ComesAfter q (declared_at p q b initialised d t)
@@ -106,7 +110,7 @@ declaration_declares p (tree.Declares s d declared semicolon) =
     and_then p q (after_all q b d declared) (specifiers_declare p (around_by p (storage_class p s) d) s)
     (all_declare q b d declared)
 
--- statements -----------------------------------------------------------------------------------------------------------
+-- statements ---------------------------------------------------------------------------------------------------------
 
 maybe_declares : (p : Place) (e : Option Expr) → ComesAfter p (after_maybe p e)
 maybe_declares p None = AtOnce p
@@ -155,7 +159,8 @@ mutual
       let q = inside p in
       let r = outside q (after_statement (inside q) s) in
       AfterScope p p (after r e) (AtOnce p)
-      (and_then q r (after r e) (AfterScope q q (after_statement (inside q) s) (AtOnce q) (statement_declares (inside q) s))
+      (and_then q r (after r e)
+      (AfterScope q q (after_statement (inside q) s) (AtOnce q) (statement_declares (inside q) s))
       (expression_declares r e))
   statement_declares p (For keyword opening start test semicolon step closing s) =
       let q = at_for (inside p) start test step in
@@ -182,14 +187,15 @@ mutual
       let q = after_statement p s in
       and_then p q (after_items q rest) (statement_declares p s) (items_declare q rest)
 
--- files ----------------------------------------------------------------------------------------------------------------
+-- files --------------------------------------------------------------------------------------------------------------
 
 body_declares : (q : Place) (d : Declarator) (is : BlockItems)
     → ComesAfter q (outside q (after_items (after_params Defines (inside q) (defined_params d)) is))
 body_declares q d is =
     let r = after_params Defines (inside q) (defined_params d) in
     AfterScope q q (after_items r is) (AtOnce q)
-    (and_then (inside q) r (after_items r is) (params_declare Defines (inside q) (defined_params d)) (items_declare r is))
+    (and_then (inside q) r (after_items r is) (params_declare Defines (inside q) (defined_params d))
+    (items_declare r is))
 
 pub external_declares : (p : Place) (x : External) → ComesAfter p (after_external p x)
 external_declares p (FileDeclaration d) = declaration_declares p d

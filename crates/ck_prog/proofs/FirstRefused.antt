@@ -1,12 +1,13 @@
 -- The refusal that is told is the first of all.
-use Rattle.std.specs.Prelude.{ℕ, suc, slice_index_or, Bool, true, false, All, Contains, List, [], ◌∷◌, Option, Some, None, if◌then◌else◌}
+use Rattle.std.specs.Prelude.{suc, slice_index_or, Bool, true, false, All, Contains, List, [], ◌∷◌, Option, Some}
+use Rattle.std.specs.Prelude.{None, if◌then◌else◌}
 use Rattle.std.specs.Prelude.{IfNone, IfSome}
 use Rattle.std.specs.Cmp.{IsTotalOrder}
 use Rattle.std.specs.Cmp.Lexicographic.{slice_cmp, on_texts}
 use Rattle.std.specs.Ordering.{is_lt, nat_cmp, ordering_reverse}
 use Rattle.std.specs.declared.cmp.Ordering.{Ordering}
 use Rattle.std.specs.declared.cmp.Ordering.TheVariants.{Less, Equal, Greater}
-use Rattle.std.proofs.Common.{◌≡◌, refl, sym, ◌∙◌, ap, subst, arith}
+use Rattle.std.proofs.Common.{◌≡◌, refl, ◌∙◌, ap, subst, arith}
 use Rattle.std.proofs.lemmas.List.Elements.{All-cons, All-nil}
 use Rattle.ck_prog.specs.BodyLaws.{IsFirst}
 use Rattle.ck_prog.specs.Refused.{RefusedAt, rank_of, comes_before, earlier, first_refused}
@@ -34,7 +35,8 @@ reversed a Greater e t = absurd (cc)
 not_before_later : (r s : RefusedAt) → comes_before s r ≡ true → comes_before r s ≡ false
 not_before_later r s t = reversed (order r s) (order s r) (orders.antisymm r s) t
 
--- where the second comes not before the first, and the third not before the second, the third comes not before the first
+-- where the second comes not before the first, and the third not before the second, the third comes not before the
+-- first
 in_order : (a b c : Ordering) → is_lt a ≡ false → is_lt b ≡ false → (c ≡ Less → b ≡ Equal → a ≡ Less)
     → (c ≡ Less → b ≡ Greater → a ≡ Less) → is_lt c ≡ false
 in_order a b Equal h k p q = refl
@@ -81,7 +83,8 @@ first_alone : (r : RefusedAt) (rs : List RefusedAt) → rs ≡ [] → IsFirst (r
 first_alone r [] e =
     record {
       one_of_them = contains_first r r [] refl;
-      none_before = All-cons (λ s. comes_before s r ≡ false) r [] (not_before_itself r) (All-nil (λ s. comes_before s r ≡ false));
+      none_before =
+          All-cons (λ s. comes_before s r ≡ false) r [] (not_before_itself r) (All-nil (λ s. comes_before s r ≡ false));
     }
 first_alone r (s ∷ rs) e = absurd (cc)
 
@@ -96,7 +99,8 @@ replaced : (r s : RefusedAt) (rs : List RefusedAt) → comes_before s r ≡ fals
 replaced r s rs h first =
     record {
       one_of_them = contains_first r r rs refl;
-      none_before = All-cons (λ u. comes_before u r ≡ false) r rs (not_before_itself r) (all_after r s rs h first.none_before);
+      none_before =
+          All-cons (λ u. comes_before u r ≡ false) r rs (not_before_itself r) (all_after r s rs h first.none_before);
     }
 
 of_two : (b : Bool) (r s : RefusedAt) (rs : List RefusedAt) → comes_before s r ≡ b → IsFirst rs s

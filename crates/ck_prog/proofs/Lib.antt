@@ -10,11 +10,16 @@ mod Scopes
 mod KnownValues
 mod OperatorsFit
 mod SensesFit
+-- bodies_declare
+mod BodiesDeclare
+-- tells_the_first, tells_some
+mod FirstRefused
 -- Worked texts
 mod Texts
 mod Walks
 mod Worked
 mod WorkedTrees
+-- Worked projects, by the numbers of their refusals
 mod ProjectTexts
 mod WorkedNames
 mod WorkedLinks
@@ -23,7 +28,5 @@ mod WorkedTypes
 mod WorkedFunctions
 mod WorkedBodies
 mod WorkedSettings
-mod WorkedFirmware
-mod BodiesDeclare
-mod FirstRefused
 mod WorkedCorners
+mod WorkedFirmware

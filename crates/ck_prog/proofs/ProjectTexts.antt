@@ -1,5 +1,5 @@
--- How whole projects are stated: for each file its lines, with one blank between two tokens; `@` stands before the token at
--- which the project is refused. For worked texts alone.
+-- How whole projects are stated: for each file its lines, with one blank between two tokens; `@` stands before the
+-- token at which the project is refused. For worked texts alone.
 use Rattle.std.proofs.Common.{◌≡◌}
 use Rattle.std.specs.Prelude.{ℕ, suc, ◌+◌, Bool, List, [], ◌∷◌, ◌++◌, length, codes, Option, Some, None}
 use Rattle.std.specs.Prelude.{if◌then◌else◌}
@@ -7,7 +7,6 @@ use Rattle.std.specs.List.{join_with_byte}
 use Rattle.std.specs.Option.{option_map}
 use Rattle.std.specs.Str.{bytes_eq}
 use Rattle.ck_base.specs.declared.refusals.Unsupported.{Unsupported}
-use Rattle.ck_base.specs.declared.tokens.Token.{Token}
 use Rattle.ck_grammar.specs.ReadingStatements.{file_at}
 use Rattle.ck_grammar.specs.Statements.{External}
 use Rattle.ck_grammar.specs.Words.{words}
@@ -34,7 +33,7 @@ pub data Answer : Type 0 where
   -- a file is none of the grammar
   Unread : Answer
 
--- texts ----------------------------------------------------------------------------------------------------------------
+-- texts --------------------------------------------------------------------------------------------------------------
 
 abbrev pub File : Type 0
 File = List String
@@ -70,7 +69,7 @@ abbrev read_from : ℕ → List File → Option (List ReadFile)
 read_from k [] = Some []
 read_from k (f ∷ fs) = with_first (read_words k (without_mark (words_of f))) (read_from (suc k) fs)
 
--- answers --------------------------------------------------------------------------------------------------------------
+-- answers ------------------------------------------------------------------------------------------------------------
 
 abbrev refused_or : Option RefusedAt → Answer → Answer
 refused_or None later = later
@@ -100,7 +99,7 @@ at_mark_from number k [] = AcceptedProject
 at_mark_from number k (f ∷ fs) =
     refused_at_or number k (marked_from 0 (words_of f)) (at_mark_from number (suc k) fs)
 
--- statements -----------------------------------------------------------------------------------------------------------
+-- statements ---------------------------------------------------------------------------------------------------------
 
 -- these files are accepted; they are refused by this number at the mark; so with these names in the settings
 abbrev pub Accepted : List File → Type 0

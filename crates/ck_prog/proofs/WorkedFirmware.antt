@@ -57,10 +57,10 @@ status_pair = refl
 
 -- a table of commands, a callback in a struct, a timer function that sets itself, threads
 realistic : AcceptedWith (record {
-      vectors = [];
-      callbacks = (codes "GPTConfig", codes "callback") ∷ [];
-      functions = codes "gptStart" ∷ codes "palToggleLine" ∷ [];
-    })
+  vectors = [];
+  callbacks = (codes "GPTConfig", codes "callback") ∷ [];
+  functions = codes "gptStart" ∷ codes "palToggleLine" ∷ [];
+})
     (("typedef unsigned uint32_t ; typedef void ( * tfunc_t ) ( void * ) ; typedef void ( * vtfunc_t ) ( void * ) ;"
     ∷ "typedef struct ch_semaphore { uint32_t o [ 8 ] ; } semaphore_t ;"
     ∷ "typedef struct ch_virtual_timer { uint32_t o [ 8 ] ; } virtual_timer_t ;"

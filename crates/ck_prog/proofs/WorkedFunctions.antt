@@ -159,10 +159,10 @@ static_of_another_file = refl
 
 -- a named function takes a function
 named_with_function_pointer : RefusedWith (record {
-      vectors = [];
-      callbacks = [];
-      functions = codes "note" ∷ codes "hook" ∷ [];
-    }) U18
+  vectors = [];
+  callbacks = [];
+  functions = codes "note" ∷ codes "hook" ∷ [];
+}) U18
     (("void note ( int n ) ; void hook ( int n , void cb ( int ) ) ; int main ( void ) { note ( 1 ) ;"
     ∷ "@ hook ( 2 , 0 ) ; return 0 ; }" ∷ []) ∷ [])
 unfolding kernel_table
@@ -170,10 +170,10 @@ named_with_function_pointer = refl
 
 -- outside functions with their class
 named_outside_functions : AcceptedWith (record {
-      vectors = [];
-      callbacks = (codes "cfg", codes "cb") ∷ [];
-      functions = codes "start" ∷ codes "poll" ∷ codes "body" ∷ codes "absent" ∷ [];
-    })
+  vectors = [];
+  callbacks = (codes "cfg", codes "cb") ∷ [];
+  functions = codes "start" ∷ codes "poll" ∷ codes "body" ∷ codes "absent" ∷ [];
+})
     (("int body ( int n ) { return n ; }" ∷ [])
     ∷ ("struct cfg { int n ; void ( * cb ) ( void * ) ; } ; void chSysInit ( void ) ;"
     ∷ "void start ( const struct cfg * c ) ; int poll ( void ) , body ( int n ) ;"

@@ -9,10 +9,10 @@ use Rattle.ck_prog.proofs.ProjectTexts.{Accepted, AcceptedWith, Missing, Refused
 
 -- callbacks of a tag and of a typedef name
 callback_by_typedef_and_tag : AcceptedWith (record {
-      vectors = [];
-      callbacks = (codes "uart", codes "rx") ∷ (codes "timer_cfg", codes "done") ∷ [];
-      functions = codes "reg" ∷ [];
-    })
+  vectors = [];
+  callbacks = (codes "uart", codes "rx") ∷ (codes "timer_cfg", codes "done") ∷ [];
+  functions = codes "reg" ∷ [];
+})
     (("void chSysInit ( void ) ; void reg ( const void * c ) ;"
     ∷ "struct uart { int speed ; void ( * rx ) ( int ) , ( * tx ) ( void ) ; } ;"
     ∷ "typedef struct { int rx ; } UART ;"
@@ -26,20 +26,20 @@ callback_by_typedef_and_tag = refl
 
 -- a callback's member is an array
 callback_array_member : Missing (record {
-      vectors = [];
-      callbacks = (codes "uart", codes "rx") ∷ (codes "uart", codes "all") ∷ [];
-      functions = [];
-    }) (CallbackMember 1)
+  vectors = [];
+  callbacks = (codes "uart", codes "rx") ∷ (codes "uart", codes "all") ∷ [];
+  functions = [];
+}) (CallbackMember 1)
     (("struct uart { void ( * rx ) ( void ) ; void ( * all [ 2 ] ) ( void ) ; } ; struct uart u ;"
     ∷ "int main ( void ) { int * p = 1 ; return 0 ; }" ∷ []) ∷ [])
 callback_array_member = refl
 
 -- a vector's function is static
 vector_that_is_static : Missing (record {
-      vectors = codes "Vector40" ∷ [];
-      callbacks = [];
-      functions = [];
-    }) (VectorFunction 0)
+  vectors = codes "Vector40" ∷ [];
+  callbacks = [];
+  functions = [];
+}) (VectorFunction 0)
     (("static void Vector40 ( void ) { } int main ( void ) { Vector40 ( ) ; return 0 ; }" ∷ []) ∷ [])
 vector_that_is_static = refl
 
@@ -146,10 +146,10 @@ sized_above_the_bound = refl
 
 -- a named function with ...
 variadic_call : AcceptedWith (record {
-      vectors = [];
-      callbacks = [];
-      functions = codes "trace" ∷ [];
-    })
+  vectors = [];
+  callbacks = [];
+  functions = codes "trace" ∷ [];
+})
     (("int trace ( const char * text , ... ) ; int main ( void ) { struct { int a ; } v = { 1 } ;"
     ∷ "return trace ( \"a\" ) + trace ( \"b\" , 'c' , 1LL , & v , v , \"d\" ) ; }" ∷ []) ∷ [])
 unfolding kernel_table
@@ -157,10 +157,10 @@ variadic_call = refl
 
 -- too few arguments before the dots
 variadic_call_too_short : RefusedWith (record {
-      vectors = [];
-      callbacks = [];
-      functions = codes "trace" ∷ [];
-    }) U14
+  vectors = [];
+  callbacks = [];
+  functions = codes "trace" ∷ [];
+}) U14
     (("int trace ( const char * text , ... ) ; int main ( void ) {"
     ∷ "return trace ( \"a\" , 1 ) + @ trace ( ) ; }" ∷ []) ∷ [])
 unfolding kernel_table

@@ -1,6 +1,5 @@
 -- Laws of initialisers, declarations, statements, files and refusals.
-use Rattle.std.specs.Prelude.{◌≡◌, Bool, true, false, All, List, [], Contains, IfSome, IfNone, Some}
-use Rattle.ck_base.specs.declared.tokens.Token.{Token}
+use Rattle.std.specs.Prelude.{◌≡◌, false, All, List, [], Contains, IfNone, Some}
 use Rattle.ck_grammar.specs.Statements.{Init, Declaration, Statement, BlockItems, External}
 use Rattle.ck_prog.specs.Declarations.{Place}
 use Rattle.ck_prog.specs.Growing.{ComesAfter}

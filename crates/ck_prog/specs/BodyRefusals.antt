@@ -1,31 +1,29 @@
--- What is refused of a type, an initialiser, a declared name, a controlling expression, a label or a jump: U8 to U11, U14,
--- U16, U19 and U26 (C99 6.7, 6.8).
-use Rattle.std.specs.Prelude.{ℕ, ℤ, ◌+◌, ◌-◌, ◌==◌, Bool, true, false, ◌&&◌, ◌||◌, not, nat_le, nat_lt, List, [], ◌∷◌}
+-- What is refused of a type, an initialiser, a declared name, a controlling expression, a label or a jump: U8 to U11,
+-- U14, U16, U19 and U26 (C99 6.7, 6.8).
+use Rattle.std.specs.Prelude.{ℕ, ◌-◌, ◌==◌, Bool, true, false, ◌&&◌, ◌||◌, not, nat_le, nat_lt, List}
 use Rattle.std.specs.Prelude.{Option, Some, None, if◌then◌else◌}
 use Rattle.std.specs.List.{list_any}
 use Rattle.std.specs.Option.{is_some}
 use Rattle.std.specs.Ordering.{int_eq}
 use Rattle.std.specs.Str.{bytes_eq}
-use Rattle.ck_base.specs.declared.tokens.Token.{Token}
 use Rattle.ck_types.specs.IntegerTypes.{represents}
 use Rattle.ck_types.specs.Types.{CType, Array}
 use Rattle.ck_types.specs.declared.integer_types.IntegerType.TheVariants.{Int}
 use Rattle.ck_prog.specs.AssignmentSenses.{is_assignable}
 use Rattle.ck_prog.specs.CurrentObjects.{Object, is_for_string}
-use Rattle.ck_prog.specs.Declarations.{Layout, Entry, Meaning, Variable, FunctionNamed, Label, is_file_scope, is_tag}
+use Rattle.ck_prog.specs.Declarations.{Entry, Meaning, Variable, is_file_scope}
 use Rattle.ck_prog.specs.DeclarationRefusals.{is_enum_tag, is_label}
 use Rattle.ck_prog.specs.Derivations.{element_count}
 use Rattle.ck_prog.specs.Linking.{is_linked, linkage_of}
 use Rattle.ck_prog.specs.Projects.{Told, outermost, of_one_function}
-use Rattle.ck_prog.specs.Senses.{Constancy, Known, Sense, value_type, is_fixed_value, is_known}
+use Rattle.ck_prog.specs.Senses.{Constancy, Known, Sense, value_type, is_fixed_value}
 use Rattle.ck_prog.specs.Sights.{LabelOfSwitch, CaseLabel, DefaultLabel, is_status_call}
-use Rattle.ck_prog.specs.Sizes.{is_large}
 use Rattle.ck_prog.specs.TypeClasses.{Qualified, is_integer, is_scalar, is_void}
 use Rattle.ck_prog.specs.TypedBodies.{InitialiserFacts, DeclaredFacts, TypedInitialiser, Value, Braces}
-use Rattle.ck_prog.specs.TypedTrees.{Facts, DeclaratorFacts, Owner, OfTypeName, OfMember, OfParameter, OfDeclaration}
-use Rattle.ck_prog.specs.declared.names.Defining.TheVariants.{Declares, Tentative, Defines}
+use Rattle.ck_prog.specs.TypedTrees.{Facts, DeclaratorFacts, Owner, OfMember, OfParameter}
+use Rattle.ck_prog.specs.declared.names.Defining.TheVariants.{Defines}
 
--- types (6.7.2, 6.7.5) -------------------------------------------------------------------------------------------------
+-- types (6.7.2, 6.7.5) -----------------------------------------------------------------------------------------------
 
 -- U8: `enum` and a tag without a body that isn't in sight (6.7.2.3)
 abbrev pub is_unknown_enum : Bool → Option Entry → Bool
@@ -59,7 +57,7 @@ needs_complete f _ = false
 abbrev pub is_no_declarator : DeclaratorFacts → Bool
 is_no_declarator f = f.impossible || (is_some f.type && needs_complete f f.owner)
 
--- initialisers (6.7.8) -------------------------------------------------------------------------------------------------
+-- initialisers (6.7.8) -----------------------------------------------------------------------------------------------
 
 -- U14: a string that has room in an array of characters, maybe without its last character
 abbrev pub elements_in : Option CType → Option ℕ
@@ -94,7 +92,7 @@ is_no_static_value i f = i.static && not (is_fixed_value f.sense)
 abbrev pub is_no_element : Bool → Bool → Bool
 is_no_element of_array found = of_array && not found
 
--- declared names (6.7, 6.9) --------------------------------------------------------------------------------------------
+-- declared names (6.7, 6.9) ------------------------------------------------------------------------------------------
 
 abbrev pub is_open : CType → Bool
 is_open (Array q t None) = true
@@ -130,7 +128,7 @@ gives_status (Some (Braces f is)) = false
 abbrev pub is_wrong_status : Told → DeclaredFacts → Option TypedInitialiser → Bool
 is_wrong_status k f i = f.status && (list_any (is_earlier_in_function f.entry) k.statuses || not (gives_status i))
 
--- controlling expressions and results (6.8.4, 6.8.5, 6.8.6.4) ----------------------------------------------------------
+-- controlling expressions and results (6.8.4, 6.8.5, 6.8.6.4) --------------------------------------------------------
 
 abbrev pub has_other_type : (CType → Bool) → Option CType → Bool
 has_other_type test None = false
@@ -146,7 +144,7 @@ is_no_switch f = has_other_type is_integer (value_type f.sense)
 abbrev pub is_wrong_result : Option CType → Facts → Bool
 is_wrong_result result f = is_some f.sense.type && not (is_for_type f.sense result)
 
--- labels and jumps (6.8.1, 6.8.4.2, 6.8.6) -----------------------------------------------------------------------------
+-- labels and jumps (6.8.1, 6.8.4.2, 6.8.6) ---------------------------------------------------------------------------
 
 -- U9: a value that the `switch` has before, or a second `default`
 abbrev pub same_label : LabelOfSwitch → LabelOfSwitch → Bool

@@ -1,6 +1,6 @@
--- The functions of a project and their evaluated calls, each with its path, in the order of paths; which of them are acts,
--- and the numbers of the others.
-use Rattle.std.specs.Prelude.{ℕ, suc, ◌+◌, ◌==◌, Bool, true, false, List, [], ◌∷◌, ◌++◌, length, position, filter}
+-- The functions of a project and their evaluated calls, each with its path, in the order of paths; which of them are
+-- acts, and the numbers of the others.
+use Rattle.std.specs.Prelude.{ℕ, suc, Bool, true, false, List, [], ◌∷◌, ◌++◌, position, filter}
 use Rattle.std.specs.Prelude.{Option, Some, None, if◌then◌else◌}
 use Rattle.std.specs.Option.{is_none}
 use Rattle.ck_base.specs.declared.tokens.Token.{Token}
@@ -11,7 +11,8 @@ use Rattle.ck_prog.specs.Linking.{are_one}
 use Rattle.ck_prog.specs.Paths as part
 use Rattle.ck_prog.specs.Paths.{Path, below}
 use Rattle.ck_prog.specs.TypedBodies as bodies
-use Rattle.ck_prog.specs.TypedBodies.{TypedInitialiser, TypedInitialisers, TypedDeclarators, TypedDeclaration, TypedStart}
+use Rattle.ck_prog.specs.TypedBodies.{TypedInitialiser, TypedInitialisers, TypedDeclarators, TypedDeclaration}
+use Rattle.ck_prog.specs.TypedBodies.{TypedStart}
 use Rattle.ck_prog.specs.TypedBodies.{TypedStatement, TypedItems, TypedFunction, TypedExternal, TypedFile}
 use Rattle.ck_prog.specs.TypedTrees as trees
 use Rattle.ck_prog.specs.TypedTrees.{Typed, Links, Arguments, Steps, Facts, facts}
@@ -28,7 +29,7 @@ pub record CallSite : Type 0 where
   pub function : Option Entry
   pub arguments : Arguments
 
--- a row of suffixes up to a suffix -------------------------------------------------------------------------------------
+-- a row of suffixes up to a suffix -----------------------------------------------------------------------------------
 
 abbrev pub followed : Steps → Steps → Steps
 followed trees.NoSteps more = more
@@ -41,7 +42,7 @@ abbrev pub row_of : Typed → Steps → Typed
 row_of x trees.NoSteps = x
 row_of x steps = trees.Postfix x steps
 
--- expressions ----------------------------------------------------------------------------------------------------------
+-- expressions --------------------------------------------------------------------------------------------------------
 
 -- nothing under `sizeof` is evaluated (6.5.3.4)
 abbrev pub is_size : Prefix → Bool
@@ -100,7 +101,7 @@ abbrev pub calls_in_maybe : Path → Option Typed → List CallSite
 calls_in_maybe π None = []
 calls_in_maybe π (Some x) = calls_in π x
 
--- initialisers and declarations ----------------------------------------------------------------------------------------
+-- initialisers and declarations --------------------------------------------------------------------------------------
 
 abbrev mutual
   pub calls_in_initialiser : Path → TypedInitialiser → List CallSite
@@ -124,7 +125,7 @@ calls_in_declarators π k (bodies.Declared written f i rest) =
 abbrev pub calls_in_declaration : Path → TypedDeclaration → List CallSite
 calls_in_declaration π (bodies.Declaration first written ds) = calls_in_declarators π 0 ds
 
--- statements -----------------------------------------------------------------------------------------------------------
+-- statements ---------------------------------------------------------------------------------------------------------
 
 abbrev pub calls_in_start : Path → TypedStart → List CallSite
 calls_in_start π bodies.StartEmpty = []
@@ -167,7 +168,7 @@ abbrev mutual
   calls_in_items π k (bodies.StatementItem s rest) =
       calls_in_statement (below π (part.Item k)) s ++ calls_in_items π (suc k) rest
 
--- functions, numbered by file and then by the place of their name ------------------------------------------------------
+-- functions, numbered by file and then by the place of their name ----------------------------------------------------
 
 abbrev pub functions_in : List TypedExternal → List TypedFunction
 functions_in [] = []
@@ -185,7 +186,7 @@ calls_of_function f = calls_in_items [] 0 f.items
 abbrev pub function_number : List TypedFunction → Entry → Option ℕ
 function_number functions e = position (λ f. are_one e f.declared.entry) functions
 
--- calls ----------------------------------------------------------------------------------------------------------------
+-- calls --------------------------------------------------------------------------------------------------------------
 
 pub data CallKind : Type 0 where
   -- a kernel call, or a function that the settings name

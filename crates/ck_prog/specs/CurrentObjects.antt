@@ -1,17 +1,16 @@
--- The object that an initialiser in braces is for (C99 6.7.8). Where braces are left out, the parts of a part come next, so
--- what is open is a list, the innermost first, each with the number of the part that is next.
-use Rattle.std.specs.Prelude.{ℕ, suc, ◌+◌, ◌-◌, ◌==◌, Bool, true, false, ◌&&◌, not, nat_le, nat_lt, List, [], ◌∷◌, ◌++◌}
-use Rattle.std.specs.Prelude.{filter, reverse, slice_get, position, Option, Some, None, if◌then◌else◌, pos}
+-- The object that an initialiser in braces is for (C99 6.7.8). Where braces are left out, the parts of a part come
+-- next, so what is open is a list, the innermost first, each with the number of the part that is next.
+use Rattle.std.specs.Prelude.{ℕ, suc, ◌-◌, ◌==◌, Bool, true, false, ◌&&◌, not, nat_lt, List, [], ◌∷◌, ◌++◌}
+use Rattle.std.specs.Prelude.{reverse, position, Option, Some, None, if◌then◌else◌, pos}
 use Rattle.std.specs.Option.{is_some}
 use Rattle.std.specs.Str.{bytes_eq}
-use Rattle.ck_base.specs.declared.tokens.Token.{Token}
 use Rattle.ck_grammar.specs.Statements.{Designators, Equals, DotName, AtIndex}
 use Rattle.ck_grammar.specs.Trees.{Expr, Strings}
 use Rattle.ck_types.specs.Types.{StructIdentity, CType, Integer, Array, Struct, same_struct}
 use Rattle.ck_types.specs.declared.integer_types.IntegerType.TheVariants.{Char, SignedChar}
 use Rattle.ck_prog.specs.Declarations.{MemberOf, Meaning, Member, StructTag, Entry, Place, text}
 use Rattle.ck_prog.specs.Linking.{unqualified_type}
-use Rattle.ck_prog.specs.Senses.{Constancy, Known, Sense}
+use Rattle.ck_prog.specs.Senses.{Constancy, Known}
 use Rattle.ck_prog.specs.Sizes.{is_member, most_elements}
 use Rattle.ck_prog.specs.TypeClasses.{is_same_struct}
 use Rattle.ck_prog.specs.Typing.{sense, after}
@@ -35,7 +34,7 @@ pub data Open : Type 0 where
 abbrev pub whole_object : Option CType → Object
 whole_object t = record { path = []; type = t; member = None }
 
--- parts ----------------------------------------------------------------------------------------------------------------
+-- parts --------------------------------------------------------------------------------------------------------------
 
 abbrev pub is_tag_of : StructIdentity → Meaning → Bool
 is_tag_of s (StructTag t) = same_struct s t
@@ -83,7 +82,7 @@ abbrev pub part : Place → Open → Option Object
 part p (PartsOf o k) = part_by p o k o.type
 part p (WholeOf o k) = if k == 0 then Some o else None
 
--- what is next, and what is after it -----------------------------------------------------------------------------------
+-- what is next, and what is after it ---------------------------------------------------------------------------------
 
 abbrev pub next_object : Place → List Open → Option Object
 next_object p [] = None
@@ -99,7 +98,7 @@ past p [] = []
 past p (o ∷ []) = stepped o ∷ []
 past p (o ∷ (outer ∷ os)) = if is_some (part p (stepped o)) then stepped o ∷ (outer ∷ os) else past p (outer ∷ os)
 
--- values ---------------------------------------------------------------------------------------------------------------
+-- values -------------------------------------------------------------------------------------------------------------
 
 -- 6.4.5: string literals, without parentheses
 abbrev pub is_string : Expr → Bool
@@ -120,8 +119,8 @@ abbrev pub is_struct_of : CType → Option CType → Bool
 is_struct_of t None = false
 is_struct_of t (Some u) = is_same_struct t u
 
--- 6.7.8: an expression is for an array or a struct as a whole where it is a string for an array of characters, or has the
--- struct's type; else it is for its first part. It is for a scalar as a whole.
+-- 6.7.8: an expression is for an array or a struct as a whole where it is a string for an array of characters, or has
+-- the struct's type; else it is for its first part. It is for a scalar as a whole.
 abbrev pub is_for_whole : Bool → Option CType → Option CType → Bool
 is_for_whole string value (Some (Array q t n)) = string && is_character_type t
 is_for_whole string value (Some (Struct s)) = is_struct_of (Struct s) value
@@ -135,8 +134,8 @@ abbrev pub opened : Option Object → List Open → List Open
 opened None os = os
 opened (Some o) os = PartsOf o 0 ∷ os
 
--- 6.7.8: where braces are left out, down to the first part that an expression is for. No type nests deeper than its file
--- has bytes.
+-- 6.7.8: where braces are left out, down to the first part that an expression is for. No type nests deeper than its
+-- file has bytes.
 abbrev pub entered : List ℕ → Place → Bool → Option CType → List Open → List Open
 entered [] p string value os = os
 entered (b ∷ bs) p string value os =
@@ -146,7 +145,7 @@ entered (b ∷ bs) p string value os =
 abbrev pub down_to : Place → Expr → List Open → List Open
 down_to p e os = entered p.bytes p (is_string e) (sense p e).type os
 
--- designators ----------------------------------------------------------------------------------------------------------
+-- designators --------------------------------------------------------------------------------------------------------
 
 -- which member has this name
 abbrev pub member_number : Place → Option CType → List ℕ → Option ℕ

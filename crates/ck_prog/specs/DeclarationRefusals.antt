@@ -1,5 +1,5 @@
 -- What is refused of a declaration beside those before it: U9, U10, U12, and U14 of an object that is never complete.
-use Rattle.std.specs.Prelude.{ℕ, suc, pred, ◌+◌, Bool, true, false, ◌&&◌, ◌||◌, ◌==◌, not, List, [], ◌∷◌, codes, filter, reverse}
+use Rattle.std.specs.Prelude.{ℕ, suc, pred, Bool, true, false, ◌&&◌, ◌||◌, ◌==◌, not, List, [], ◌∷◌, codes}
 use Rattle.std.specs.Prelude.{Option, Some, None, if◌then◌else◌}
 use Rattle.std.specs.List.{list_any}
 use Rattle.std.specs.Option.{is_some}
@@ -8,24 +8,24 @@ use Rattle.ck_base.specs.KernelNames.{kernel_name}
 use Rattle.ck_kernel.specs.KernelTable.{KernelCall}
 use Rattle.ck_kernel.specs.declared.entries.EntrySink.{EntrySink}
 use Rattle.ck_kernel.specs.declared.entries.EntrySink.TheVariants.{Absent, Thread, Descriptor, Timer}
-use Rattle.ck_types.specs.Types.{StructIdentity, CType, Parameters, Void, Pointer, Array, Struct, Function, NoParameters}
+use Rattle.ck_types.specs.Types.{StructIdentity, CType, Parameters, Void, Pointer, Array, Struct, Function}
+use Rattle.ck_types.specs.Types.{NoParameters}
 use Rattle.ck_types.specs.Types.{Parameter, ByTag, ByTypedef, compatible, same_qualifiers, same_struct, same_truth}
 use Rattle.ck_prog.specs.CurrentObjects.{members_in}
-use Rattle.ck_prog.specs.Declarations.{Entry, Meaning, Variable, FunctionNamed, TypeNamed, Enumerator, EnumTag, StructTag}
+use Rattle.ck_prog.specs.Declarations.{Entry, Meaning, Variable, FunctionNamed, TypeNamed, Enumerator, EnumTag}
+use Rattle.ck_prog.specs.Declarations.{StructTag}
 use Rattle.ck_prog.specs.Declarations.{Member, Completed, Label, Place, is_ordinary, is_tag, latest}
 use Rattle.ck_prog.specs.Linking.{is_linked, is_external, linkage_of, are_one, type_of, joined_over}
 use Rattle.ck_prog.specs.Projects.{Told, beside, of_one_function, defines, is_tentative, may_define, kernel_call}
 use Rattle.ck_prog.specs.Sizes.{is_complete, is_member}
 use Rattle.ck_prog.specs.TypeClasses.{Qualified, plain, is_integer}
-use Rattle.ck_prog.specs.TypedExpressions.{is_function_named}
-use Rattle.ck_prog.specs.declared.names.Defining.TheVariants.{Defines, Tentative}
-use Rattle.ck_prog.specs.declared.names.Linkage.TheVariants.{External}
+use Rattle.ck_prog.specs.declared.names.Defining.TheVariants.{Tentative}
 
 abbrev pub passes : (Entry → Bool) → Option Entry → Bool
 passes test None = false
 passes test (Some d) = test d
 
--- U9: defined twice ----------------------------------------------------------------------------------------------------
+-- U9: defined twice --------------------------------------------------------------------------------------------------
 
 abbrev pub in_one_scope : Entry → Entry → Bool
 in_one_scope e d = e.file == d.file && bytes_eq e.scope d.scope && bytes_eq e.name d.name
@@ -95,7 +95,7 @@ is_twice k e before =
     || body_twice e e.meaning before
     || label_twice e before
 
--- U10: types differ ----------------------------------------------------------------------------------------------------
+-- U10: types differ --------------------------------------------------------------------------------------------------
 
 abbrev pub are_alike : Option CType → Option CType → Bool
 are_alike (Some t) (Some u) = compatible t u
@@ -165,7 +165,7 @@ abbrev pub is_no_call : Option KernelCall → Meaning → Bool
 is_no_call None m = false
 is_no_call (Some c) m = is_linked (linkage_of m) && not (is_meant_as_call c m)
 
--- structs --------------------------------------------------------------------------------------------------------------
+-- structs ------------------------------------------------------------------------------------------------------------
 
 abbrev pub is_of_type : (CType → Bool) → Option Qualified → Bool
 is_of_type test None = true
@@ -225,7 +225,7 @@ is_different e before =
     || (kernel_name e.name && is_no_call (kernel_call e.name) e.meaning)
     || is_other_struct e e.meaning before
 
--- U12: kernel name defined ---------------------------------------------------------------------------------------------
+-- U12: kernel name defined -------------------------------------------------------------------------------------------
 
 abbrev pub makes_name : Meaning → Bool
 makes_name (TypeNamed t) = true
@@ -235,7 +235,7 @@ makes_name m = may_define m
 abbrev pub is_kernel_defined : Entry → Bool
 is_kernel_defined e = kernel_name e.name && makes_name e.meaning
 
--- U14: a tentative definition of an object whose type is complete nowhere in its file ----------------------------------
+-- U14: a tentative definition of an object whose type is complete nowhere in its file --------------------------------
 
 -- 6.9.2: an array of unknown size has one element
 abbrev pub may_be_object : Place → CType → Bool

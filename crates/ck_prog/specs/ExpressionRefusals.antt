@@ -1,5 +1,5 @@
--- What is refused of a name, a value, a cast or a call: U8, U13 to U18, and U26 (C99 6.5). A missing type refuses nothing
--- else.
+-- What is refused of a name, a value, a cast or a call: U8, U13 to U18, and U26 (C99 6.5). A missing type refuses
+-- nothing else.
 use Rattle.std.specs.Prelude.{ℕ, ◌+◌, Bool, true, false, ◌&&◌, ◌||◌, not, nat_lt, List, [], ◌∷◌, codes}
 use Rattle.std.specs.Prelude.{Option, Some, None, if◌then◌else◌}
 use Rattle.std.specs.List.{list_any, list_all}
@@ -8,8 +8,8 @@ use Rattle.std.specs.Str.{bytes_eq}
 use Rattle.ck_types.specs.Types.{CType, Parameters, Pointer, Array, Function, NoParameters, Parameter, compatible}
 use Rattle.ck_prog.specs.Declarations.{Entry, Meaning, FunctionNamed}
 use Rattle.ck_prog.specs.Projects.{Told, is_outside, is_kernel_call, is_unknown_kernel_name, keeps_status}
-use Rattle.ck_prog.specs.Senses.{Sense, value_type}
-use Rattle.ck_prog.specs.Sights.{CallSight, StatusUse, Elsewhere, OfStatus, KeptBy, is_named}
+use Rattle.ck_prog.specs.Senses.{value_type}
+use Rattle.ck_prog.specs.Sights.{CallSight, StatusUse, OfStatus, KeptBy, is_named}
 use Rattle.ck_prog.specs.TypeClasses.{is_function_pointer, holds_function_pointers}
 use Rattle.ck_prog.specs.TypedTrees.{Facts}
 use Rattle.ck_prog.specs.declared.operators.Role.{Role}
@@ -31,7 +31,7 @@ is_undeclared name e = not (is_some e) && not (is_unknown_kernel_name name)
 abbrev pub is_untyped : Facts → List (Option CType) → Bool
 is_untyped f operands = not (is_some f.sense.type) && list_all is_some operands
 
--- U15: function value outside the subset -------------------------------------------------------------------------------
+-- U15: function value outside the subset -----------------------------------------------------------------------------
 
 -- a function without a body that isn't called
 abbrev pub is_outside_named : Told → Option Entry → Bool
@@ -54,7 +54,7 @@ changes_to null (Some to) t = changes_function null to t
 abbrev pub is_function_cast : Facts → Facts → Bool
 is_function_cast f operand = changes_to operand.sense.null f.sense.type (value_type operand.sense)
 
--- U16: pointer to a function pointer -----------------------------------------------------------------------------------
+-- U16: pointer to a function pointer ---------------------------------------------------------------------------------
 
 abbrev pub points_to_function_pointer : CType → Bool
 points_to_function_pointer (Pointer q t) = holds_function_pointers t
@@ -70,7 +70,7 @@ abbrev pub is_too_deep : Bool → Option CType → Bool
 is_too_deep whole None = false
 is_too_deep whole (Some t) = points_to_function_pointer t || (is_function_table t && not whole)
 
--- U17: more than three operands of a call hold calls -------------------------------------------------------------------
+-- U17: more than three operands of a call hold calls -----------------------------------------------------------------
 
 abbrev pub calls_among : List Facts → ℕ
 calls_among [] = 0
@@ -79,7 +79,7 @@ calls_among (f ∷ fs) = (if f.holds_call then 1 else 0) + calls_among fs
 abbrev pub is_crowded : CallSight → Bool
 is_crowded c = nat_lt 3 (calls_among (c.called ∷ c.arguments))
 
--- U18: outside function not named in the settings ----------------------------------------------------------------------
+-- U18: outside function not named in the settings --------------------------------------------------------------------
 
 abbrev pub takes_function : Parameters → Bool
 takes_function NoParameters = false
@@ -94,7 +94,8 @@ abbrev pub is_foreign : Told → Entry → Bool
 is_foreign k e = is_outside k e && not (is_kernel_call e.name)
 
 abbrev pub is_refused_call : Told → Entry → Bool
-is_refused_call k e = is_foreign k e && (not (list_any (bytes_eq e.name) k.project.outside) || takes_functions e.meaning)
+is_refused_call k e =
+    is_foreign k e && (not (list_any (bytes_eq e.name) k.project.outside) || takes_functions e.meaning)
 
 abbrev pub is_unnamed_call : Told → Facts → Option Entry → Bool
 is_unnamed_call k f None = false
@@ -121,7 +122,7 @@ abbrev pub is_function_passed : Told → CallSight → Option Entry → Bool
 is_function_passed k c None = false
 is_function_passed k c (Some e) = is_foreign k e && passes_function e.meaning c.arguments
 
--- U26: the status pair -------------------------------------------------------------------------------------------------
+-- U26: the status pair -----------------------------------------------------------------------------------------------
 
 abbrev pub is_elsewhere : StatusUse → Bool
 is_elsewhere OfStatus = false

@@ -21,8 +21,8 @@ pub data Part : Type 0 where
   -- assignment
   Left : Part
   Right : Part
-  -- initialisers and declarations (6.7): an element of braces; the initialiser of a declarator. An initialiser that is an
-  -- expression has that expression's path.
+  -- initialisers and declarations (6.7): an element of braces; the initialiser of a declarator. An initialiser that is
+  -- an expression has that expression's path.
   ElementOf : ℕ → Part
   InitialiserOf : ℕ → Part
   -- statements (6.8): the items of a block

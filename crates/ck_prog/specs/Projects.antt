@@ -1,5 +1,5 @@
--- What the refusals know of a project: all declarations, the functions that its settings name, and its variables that keep
--- the kernel's status; which function has a body, and which kernel call a name is.
+-- What the refusals know of a project: all declarations, the functions that its settings name, and its variables that
+-- keep the kernel's status; which function has a body, and which kernel call a name is.
 use Rattle.std.specs.Prelude.{ℕ, Bool, true, false, ◌&&◌, ◌||◌, ◌==◌, not, List, [], ◌∷◌, find, Option, Some, None}
 use Rattle.std.specs.Prelude.{if◌then◌else◌}
 use Rattle.std.specs.List.{list_any}
@@ -10,7 +10,6 @@ use Rattle.ck_base.specs.declared.tokens.Token.{Token}
 use Rattle.ck_kernel.specs.KernelTable.{KernelCall, kernel_table}
 use Rattle.ck_prog.specs.Acts.{Project, has_body}
 use Rattle.ck_prog.specs.Declarations.{Entry, Meaning, Variable, FunctionNamed, latest}
-use Rattle.ck_prog.specs.Linking.{are_one}
 use Rattle.ck_prog.specs.Sights.{Sight, DeclaredName}
 use Rattle.ck_prog.specs.TypedExpressions.{is_function_named}
 use Rattle.ck_prog.specs.declared.names.Defining.TheVariants.{Defines, Tentative}
@@ -20,7 +19,7 @@ pub record Told : Type 0 where
   -- the declarations of variables that may keep the kernel's status
   pub statuses : List Entry
 
--- tokens and scopes ----------------------------------------------------------------------------------------------------
+-- tokens and scopes --------------------------------------------------------------------------------------------------
 
 abbrev pub same_token : Token → Token → Bool
 same_token t u = t.span.file == u.span.file && t.span.start == u.span.start
@@ -38,7 +37,7 @@ outermost (n ∷ (m ∷ ns)) = outermost (m ∷ ns)
 abbrev pub of_one_function : Entry → Entry → Bool
 of_one_function e d = e.file == d.file && bytes_eq (outermost e.scope) (outermost d.scope)
 
--- definitions ----------------------------------------------------------------------------------------------------------
+-- definitions --------------------------------------------------------------------------------------------------------
 
 -- 6.9: it defines what it names
 abbrev pub defines : Meaning → Bool
@@ -57,7 +56,7 @@ may_define m = defines m || is_tentative m
 abbrev pub is_outside : Told → Entry → Bool
 is_outside k e = is_function_named e.meaning && not (has_body k.project.all e)
 
--- kernel calls ---------------------------------------------------------------------------------------------------------
+-- kernel calls -------------------------------------------------------------------------------------------------------
 
 abbrev pub kernel_call : List ℕ → Option KernelCall
 kernel_call name = find (λ c. bytes_eq c.name name) kernel_table
@@ -68,7 +67,7 @@ is_kernel_call name = is_some (kernel_call name)
 abbrev pub is_unknown_kernel_name : List ℕ → Bool
 is_unknown_kernel_name name = kernel_name name && not (is_kernel_call name)
 
--- status variables -----------------------------------------------------------------------------------------------------
+-- status variables ---------------------------------------------------------------------------------------------------
 
 abbrev pub statuses_in : List Sight → List Entry
 statuses_in [] = []

@@ -1,7 +1,7 @@
--- What is refused of a project: U8 to U13 when files are linked, then U14 to U19 and U26 when they are typed; each is one
--- test on one sight, or on one declaration beside those before it. The first one by file, then by offset, then by number
--- is told.
-use Rattle.std.specs.Prelude.{ℕ, Bool, true, false, ◌&&◌, ◌||◌, not, List, [], ◌∷◌, ◌++◌, Option, Some, None}
+-- What is refused of a project: U8 to U13 when files are linked, then U14 to U19 and U26 when they are typed; each is
+-- one test on one sight, or on one declaration beside those before it. The first one by file, then by offset, then by
+-- number is told.
+use Rattle.std.specs.Prelude.{ℕ, Bool, true, false, ◌||◌, not, List, [], ◌∷◌, ◌++◌, Option, Some, None}
 use Rattle.std.specs.Prelude.{if◌then◌else◌}
 use Rattle.std.specs.List.{list_any}
 use Rattle.std.specs.Cmp.Lexicographic.{slice_cmp}
@@ -24,16 +24,15 @@ use Rattle.ck_prog.specs.ExpressionRefusals.{is_stray_pair}
 use Rattle.ck_prog.specs.Linking.{unqualified_type}
 use Rattle.ck_prog.specs.Projects.{Told, is_unknown_kernel_name, statuses_in}
 use Rattle.ck_prog.specs.Senses.{is_known}
-use Rattle.ck_prog.specs.Sights.{Sight, CallSight, NameUse, ValueOf, PrimaryValue, CastOf, CallOf, MentionOf, StructOf}
+use Rattle.ck_prog.specs.Sights.{Sight, NameUse, ValueOf, PrimaryValue, CastOf, CallOf, MentionOf, StructOf}
 use Rattle.ck_prog.specs.Sights.{EnumeratorOf, SizeOf, DeclaratorOf, ValueGiven, BracesGiven, MemberNamed, ElementNamed}
 use Rattle.ck_prog.specs.Sights.{DeclaredName, DefinedName, TestOf, SwitchOn, CaseValue, SwitchLabel, RepeatedLabel}
 use Rattle.ck_prog.specs.Sights.{GotoTo, JumpTo, Returned, in_files}
 use Rattle.ck_prog.specs.Sizes.{is_large}
-use Rattle.ck_prog.specs.TypedBodies.{TypedInitialiser, initialiser_facts}
 use Rattle.ck_prog.specs.TypedExpressions.{or_token}
 use Rattle.ck_prog.specs.TypedFiles.{ReadFile, declarations, typed_files}
 
--- the tests of sights --------------------------------------------------------------------------------------------------
+-- the tests of sights ------------------------------------------------------------------------------------------------
 
 abbrev pub sight_test : Told → Unsupported → Sight → Bool
 sight_test k U8 (NameUse f name e used) = is_undeclared name e
@@ -75,7 +74,7 @@ sight_test k U26 (CallOf c) = is_stray_pair k c
 sight_test k U26 (DeclaredName f i) = is_wrong_status k f i
 sight_test k number s = false
 
--- their spots: of an expression its first token, of a declaration its name, else the keyword ---------------------------
+-- their spots: of an expression its first token, of a declaration its name, else the keyword -------------------------
 
 abbrev pub sight_spot : Unsupported → Sight → Token
 sight_spot number (NameUse f name e used) = f.first
@@ -108,7 +107,7 @@ sight_spot number (GotoTo keyword name scope) = keyword
 sight_spot number (JumpTo keyword found) = keyword
 sight_spot number (Returned result f) = f.first
 
--- the tests of declarations, each at its name --------------------------------------------------------------------------
+-- the tests of declarations, each at its name ------------------------------------------------------------------------
 
 abbrev pub entry_test : Told → Unsupported → Entry → List Entry → Bool
 entry_test k U9 e before = is_twice k e before
@@ -117,7 +116,7 @@ entry_test k U12 e before = is_kernel_defined e
 entry_test k U14 e before = is_never_complete k e e.meaning
 entry_test k number e before = false
 
--- faults ---------------------------------------------------------------------------------------------------------------
+-- faults -------------------------------------------------------------------------------------------------------------
 
 pub record RefusedAt : Type 0 where
   pub number : Unsupported
@@ -148,7 +147,7 @@ abbrev pub of_entries : Told → List Unsupported → List Entry → List Refuse
 of_entries k numbers [] = []
 of_entries k numbers (e ∷ before) = of_entry k numbers e before (of_entries k numbers before)
 
--- the first of them ----------------------------------------------------------------------------------------------------
+-- the first of them --------------------------------------------------------------------------------------------------
 
 -- by file, then by offset, then by number
 abbrev pub rank_of : RefusedAt → List ℕ
@@ -165,7 +164,7 @@ abbrev pub first_refused : List RefusedAt → Option RefusedAt
 first_refused [] = None
 first_refused (r ∷ rs) = earlier r (first_refused rs)
 
--- projects -------------------------------------------------------------------------------------------------------------
+-- projects -----------------------------------------------------------------------------------------------------------
 
 abbrev pub sights_of : List ReadFile → List Sight
 sights_of fs = in_files (typed_files fs)

@@ -1,5 +1,5 @@
 -- What the names in a project's settings name: the functions of vectors, the structs and members of callbacks.
-use Rattle.std.specs.Prelude.{ℕ, suc, Bool, true, false, ◌&&◌, ◌||◌, not, List, [], ◌∷◌, Option, Some, None}
+use Rattle.std.specs.Prelude.{ℕ, suc, Bool, true, false, ◌&&◌, not, List, [], ◌∷◌, Option, Some, None}
 use Rattle.std.specs.Prelude.{if◌then◌else◌}
 use Rattle.std.specs.Option.{is_some}
 use Rattle.std.specs.Str.{bytes_eq}
@@ -10,7 +10,7 @@ use Rattle.ck_prog.specs.Linking.{is_external, linkage_of}
 use Rattle.ck_prog.specs.Slots.{Slot, earliest, or_else, slot_of_member}
 use Rattle.ck_prog.specs.TypeClasses.{Qualified, is_function_pointer}
 
--- vectors: a function with external linkage and a body -----------------------------------------------------------------
+-- vectors: a function with external linkage and a body ---------------------------------------------------------------
 
 abbrev pub is_handler : List ℕ → Entry → Bool
 is_handler name e = bytes_eq e.name name && is_body e.meaning && is_external (linkage_of e.meaning)
@@ -18,8 +18,9 @@ is_handler name e = bytes_eq e.name name && is_body e.meaning && is_external (li
 abbrev pub handler : List Entry → List ℕ → Option Entry
 handler all name = earliest (is_handler name) all
 
--- callbacks: the struct with this tag at file scope, else that of the first such typedef name, else that of the first such
--- tag of a block -------------------------------------------------------------------------------------------------------
+-- callbacks: the struct with this tag at file scope, else that of the first such typedef name, else that of the first
+-- such
+-- tag of a block -----------------------------------------------------------------------------------------------------
 
 abbrev pub struct_in_type : CType → Option StructIdentity
 struct_in_type (Struct s) = Some s
@@ -75,9 +76,10 @@ slot_in (Some s) all member = slot_of_member all s member
 abbrev pub callback_slot : List Entry → List ℕ → List ℕ → Option Slot
 callback_slot all of member = slot_in (struct_named all of) all member
 
--- the first name that names nothing ------------------------------------------------------------------------------------
+-- the first name that names nothing ----------------------------------------------------------------------------------
 
--- at an element of the settings' lists, counted from 0: the function of a vector, the struct or the member of a callback
+-- at an element of the settings' lists, counted from 0: the function of a vector, the struct or the member of a
+-- callback
 pub data NamesNothing : Type 0 where
   VectorFunction : ℕ → NamesNothing
   CallbackStruct : ℕ → NamesNothing

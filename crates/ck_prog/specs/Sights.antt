@@ -1,5 +1,5 @@
--- What of typed trees the refusals look at: one sight for each name, value, call, cast, type, initialiser, declared name,
--- label and jump, in written order.
+-- What of typed trees the refusals look at: one sight for each name, value, call, cast, type, initialiser, declared
+-- name, label and jump, in written order.
 use Rattle.std.specs.Prelude.{ℕ, ℤ, Bool, true, false, List, [], ◌∷◌, ◌++◌, codes, Option, Some, None, if◌then◌else◌}
 use Rattle.std.specs.Str.{bytes_eq}
 use Rattle.ck_base.specs.TokenText.{text_of}
@@ -15,7 +15,6 @@ use Rattle.ck_prog.specs.TypedBodies.{TypedItems, TypedFunction, TypedExternal, 
 use Rattle.ck_prog.specs.TypedTrees as trees
 use Rattle.ck_prog.specs.TypedTrees.{Typed, Links, Arguments, Steps, TypeParts, Facts, DeclaratorFacts, facts}
 use Rattle.ck_prog.specs.TypedTrees.{argument_facts}
-use Rattle.ck_prog.specs.declared.operators.Assigning.{Assigning}
 use Rattle.ck_prog.specs.declared.operators.Assigning.TheVariants.{Plain}
 
 -- how an expression stands beside the kernel's status (docs/LANGUAGE.md)
@@ -78,7 +77,7 @@ pub data Sight : Type 0 where
   JumpTo : Token → Bool → Sight
   Returned : Option CType → Facts → Sight
 
--- the status pair ------------------------------------------------------------------------------------------------------
+-- the status pair ----------------------------------------------------------------------------------------------------
 
 abbrev pub is_named : Option Entry → List ℕ → Bool
 is_named None name = false
@@ -116,7 +115,7 @@ abbrev pub use_of_last : StatusUse → Steps → StatusUse
 use_of_last used trees.NoSteps = used
 use_of_last used _ = Elsewhere
 
--- expressions and types ------------------------------------------------------------------------------------------------
+-- expressions and types ----------------------------------------------------------------------------------------------
 
 abbrev pub types : List Facts → List (Option CType)
 types [] = []
@@ -151,7 +150,9 @@ module _ (bytes : List ℕ) where
     in_expression used (trees.Unary f op x) = ValueOf f (types (facts x ∷ [])) ∷ in_expression Elsewhere x
     in_expression used (trees.SizeofType f written) = ValueOf f (type_named written ∷ []) ∷ in_type written
     in_expression used (trees.Cast f written x) =
-        ValueOf f (type_named written ∷ types (facts x ∷ [])) ∷ CastOf f (facts x) ∷ (in_type written ++ in_expression Elsewhere x)
+        ValueOf f (type_named written ∷ types (facts x ∷ []))
+        ∷ CastOf f (facts x)
+        ∷ (in_type written ++ in_expression Elsewhere x)
     in_expression used (trees.Chain x links) = in_expression Elsewhere x ++ in_links (facts x) links
     in_expression used (trees.Conditional f test a b) =
         ValueOf f (types (facts test ∷ facts a ∷ facts b ∷ []))
@@ -175,18 +176,19 @@ module _ (bytes : List ℕ) where
     in_steps used name so_far (trees.Call opening function arguments f rest) =
         ValueOf f (types (so_far ∷ argument_facts arguments))
         ∷ CallOf (record {
-            value = f;
-            function = function;
-            name = name;
-            called = so_far;
-            arguments = argument_facts arguments;
-            named = first_named arguments;
-            used = use_of_last used rest;
-          })
+          value = f;
+          function = function;
+          name = name;
+          called = so_far;
+          arguments = argument_facts arguments;
+          named = first_named arguments;
+          used = use_of_last used rest;
+        })
         ∷ (in_arguments (use_in_call function) arguments ++ in_steps used None f rest)
     in_steps used name so_far (trees.Access is_dot member m f rest) =
         ValueOf f (types (so_far ∷ [])) ∷ in_steps used None f rest
-    in_steps used name so_far (trees.PostIncrement t op f rest) = ValueOf f (types (so_far ∷ [])) ∷ in_steps used None f rest
+    in_steps used name so_far (trees.PostIncrement t op f rest) =
+        ValueOf f (types (so_far ∷ [])) ∷ in_steps used None f rest
 
     pub in_type : TypeParts → List Sight
     in_type trees.NoParts = []
@@ -198,7 +200,7 @@ module _ (bytes : List ℕ) where
     in_type (trees.ArraySize x large rest) = SizeOf (facts x) large ∷ (in_expression Elsewhere x ++ in_type rest)
     in_type (trees.WholeDeclarator f rest) = DeclaratorOf f ∷ in_type rest
 
-  -- initialisers and declarations --------------------------------------------------------------------------------------
+  -- initialisers and declarations ------------------------------------------------------------------------------------
 
   abbrev pub in_designators : TypedDesignators → List Sight
   in_designators bodies.NoDesignators = []
@@ -228,7 +230,7 @@ module _ (bytes : List ℕ) where
   abbrev pub in_declaration : TypedDeclaration → List Sight
   in_declaration (bodies.Declaration first written ds) = in_type written ++ in_declarators ds
 
-  -- statements ---------------------------------------------------------------------------------------------------------
+  -- statements -------------------------------------------------------------------------------------------------------
 
   -- 6.8.3: an assignment that is a whole statement may keep the status
   abbrev pub in_statement_expression : Typed → List Sight
@@ -311,7 +313,7 @@ module _ (bytes : List ℕ) where
     in_items scope (bodies.DeclarationItem d rest) = in_declaration d ++ in_items scope rest
     in_items scope (bodies.StatementItem s rest) = in_statement scope s ++ in_items scope rest
 
-  -- files --------------------------------------------------------------------------------------------------------------
+  -- files ------------------------------------------------------------------------------------------------------------
 
   abbrev pub in_external : TypedExternal → List Sight
   in_external (bodies.FileDeclaration d) = in_declaration d

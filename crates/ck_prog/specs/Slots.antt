@@ -1,22 +1,21 @@
--- Slots: the places that hold function pointers. There is one for each variable, each member of a struct, each parameter
--- of a function with a body and the result of each such function whose type is a function pointer or an array of function
--- pointers; an array has one.
-use Rattle.std.specs.Prelude.{ℕ, Bool, true, false, ◌&&◌, ◌||◌, ◌==◌, not, nat_lt, List, [], ◌∷◌, count_by, filter}
+-- Slots: the places that hold function pointers. There is one for each variable, each member of a struct, each
+-- parameter of a function with a body and the result of each such function whose type is a function pointer or an
+-- array of function pointers; an array has one.
+use Rattle.std.specs.Prelude.{ℕ, Bool, false, ◌&&◌, ◌||◌, ◌==◌, nat_lt, List, [], ◌∷◌, count_by}
 use Rattle.std.specs.Prelude.{Option, Some, None, if◌then◌else◌}
 use Rattle.std.specs.List.{list_any}
 use Rattle.std.specs.Str.{bytes_eq}
 use Rattle.ck_base.specs.declared.tokens.Token.{Token}
 use Rattle.ck_types.specs.Types.{StructIdentity, CType, Function, same_struct}
-use Rattle.ck_prog.specs.Declarations.{MemberOf, Entry, Meaning, Variable, FunctionNamed, Member}
+use Rattle.ck_prog.specs.Declarations.{Entry, Meaning, Variable, FunctionNamed, Member}
 use Rattle.ck_prog.specs.Linking.{are_one, unqualified_type}
 use Rattle.ck_prog.specs.Projects.{same_token}
-use Rattle.ck_prog.specs.TypeClasses.{Qualified, is_function_pointer, holds_function_pointers}
-use Rattle.ck_prog.specs.declared.names.Defining.TheVariants.{Declares, Tentative, Defines}
-use Rattle.ck_prog.specs.declared.names.Linkage.{Linkage}
+use Rattle.ck_prog.specs.TypeClasses.{is_function_pointer, holds_function_pointers}
+use Rattle.ck_prog.specs.declared.names.Defining.TheVariants.{Declares, Defines}
 use Rattle.ck_prog.specs.declared.names.Linkage.TheVariants.{NoLinkage}
 
--- what a slot is of. The name that first declares it is that of the variable or the member in the first file that declares
--- it; for a parameter its name in the definition, and for a result its function's name there.
+-- what a slot is of. The name that first declares it is that of the variable or the member in the first file that
+-- declares it; for a parameter its name in the definition, and for a result its function's name there.
 pub data SlotOf : Type 0 where
   -- a variable, or a parameter of a function with a body
   OfVariable : SlotOf

@@ -1,13 +1,12 @@
 -- Typed trees of initialisers, declarations, statements and files (C99 6.7, 6.7.8, 6.8, 6.9), on those of expressions.
-use Rattle.std.specs.Prelude.{ℕ, ℤ, Bool, List, Option, Some, None}
+use Rattle.std.specs.Prelude.{ℕ, ℤ, Bool, List, Option}
 use Rattle.ck_base.specs.declared.tokens.Token.{Token}
 use Rattle.ck_types.specs.Types.{CType}
 use Rattle.ck_prog.specs.CurrentObjects.{Object}
 use Rattle.ck_prog.specs.Declarations.{Entry}
-use Rattle.ck_prog.specs.TypeClasses.{Qualified}
-use Rattle.ck_prog.specs.TypedTrees.{Typed, TypeParts, facts}
+use Rattle.ck_prog.specs.TypedTrees.{Typed, TypeParts}
 
--- initialisers (6.7.8) -------------------------------------------------------------------------------------------------
+-- initialisers (6.7.8) -----------------------------------------------------------------------------------------------
 
 -- what is known of an initialiser
 pub record InitialiserFacts : Type 0 where
@@ -38,7 +37,7 @@ abbrev pub initialiser_facts : TypedInitialiser → InitialiserFacts
 initialiser_facts (Value f e) = f
 initialiser_facts (Braces f is) = f
 
--- declarations (6.7) ---------------------------------------------------------------------------------------------------
+-- declarations (6.7) -------------------------------------------------------------------------------------------------
 
 -- what is known of a name that a declaration or a definition declares, at the end of its declarator and initialiser
 pub record DeclaredFacts : Type 0 where
@@ -60,7 +59,7 @@ pub data TypedDeclarators : Type 0 where
 pub data TypedDeclaration : Type 0 where
   Declaration : Token → TypeParts → TypedDeclarators → TypedDeclaration
 
--- statements (6.8) -----------------------------------------------------------------------------------------------------
+-- statements (6.8) ---------------------------------------------------------------------------------------------------
 
 pub data TypedStart : Type 0 where
   StartEmpty : TypedStart
@@ -104,7 +103,7 @@ mutual
     DeclarationItem : TypedDeclaration → TypedItems → TypedItems
     StatementItem : TypedStatement → TypedItems → TypedItems
 
--- files (6.9) ----------------------------------------------------------------------------------------------------------
+-- files (6.9) --------------------------------------------------------------------------------------------------------
 
 -- a definition (6.9.1): what is written in its specifiers and its declarator, and in its parameters again; its items
 pub record TypedFunction : Type 0 where

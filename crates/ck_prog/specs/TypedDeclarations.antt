@@ -1,7 +1,5 @@
 -- The typed tree of a declaration at a place, and the place after it (C99 6.7, 6.7.8).
-use Rattle.std.specs.Prelude.{ℕ, Bool, true, false, ◌&&◌, ◌||◌, not, List, [], ◌∷◌, Option, Some, None}
-use Rattle.std.specs.Prelude.{if◌then◌else◌}
-use Rattle.std.specs.Option.{is_some}
+use Rattle.std.specs.Prelude.{ℕ, Bool, true, false, ◌&&◌, ◌||◌, not, List, [], Option, Some, None}
 use Rattle.ck_base.specs.declared.tokens.Token.{Token}
 use Rattle.ck_grammar.specs.Statements as tree
 use Rattle.ck_grammar.specs.Statements.{Init, Declared, MoreDeclared, Plainly, Initialised, NoMoreDeclared, AndPlainly}
@@ -17,11 +15,11 @@ use Rattle.ck_prog.specs.Sizes.{layout, is_complete, is_large}
 use Rattle.ck_prog.specs.TypeClasses.{Qualified}
 use Rattle.ck_prog.specs.TypedBodies.{DeclaredFacts, TypedDeclarators, NoDeclared, TypedDeclaration, Declaration}
 use Rattle.ck_prog.specs.TypedBodies as typed
-use Rattle.ck_prog.specs.TypedExpressions.{in_specifiers, in_declarator, declarator_facts, first_of_specifiers, or_token}
+use Rattle.ck_prog.specs.TypedExpressions.{in_specifiers, in_declarator, declarator_facts, first_of_specifiers}
+use Rattle.ck_prog.specs.TypedExpressions.{or_token}
 use Rattle.ck_prog.specs.TypedInitialisers.{typed_whole, after_initialiser, size_given}
 use Rattle.ck_prog.specs.TypedTrees.{TypeParts, NoParts, WholeDeclarator, OfDeclaration}
 use Rattle.ck_prog.specs.Typing.{derivations, after_specifiers, after_declarator, name_of, is_static}
-use Rattle.ck_prog.specs.declared.names.Storage.{Storage}
 
 -- what the specifiers of a declaration say
 pub record Specified : Type 0 where
@@ -69,8 +67,8 @@ text_or_nothing p (Some name) = text p name
 abbrev pub own_type : Place → Specified → Declarator → Option Qualified
 own_type p b d = made (after_declarator p d) (derivations p d) b.base
 
--- a declarator at a place says what its name is; the name is declared at a later place with a type, before an initialiser
--- or not
+-- a declarator at a place says what its name is; the name is declared at a later place with a type, before an
+-- initialiser or not
 abbrev pub declared_entry : Place → Place → Specified → Bool → Declarator → Option Qualified → Entry
 declared_entry p q b initialised d t =
     let name = text_or_nothing q (name_of d) in

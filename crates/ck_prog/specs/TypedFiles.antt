@@ -6,7 +6,7 @@ use Rattle.ck_grammar.specs.Statements.{BlockItems, External}
 use Rattle.ck_grammar.specs.Trees.{Specifiers, Declarator}
 use Rattle.ck_types.specs.Types.{CType, Function}
 use Rattle.ck_prog.specs.BaseTypes.{base_type}
-use Rattle.ck_prog.specs.Declarations.{Entry, Meaning, FunctionNamed, Place, text, inside, outside}
+use Rattle.ck_prog.specs.Declarations.{Entry, Meaning, FunctionNamed, Place, inside, outside}
 use Rattle.ck_prog.specs.Declaring.{after_function_name, defined_params, at_body}
 use Rattle.ck_prog.specs.Derivations.{made}
 use Rattle.ck_prog.specs.Linking.{storage_class, function_declared}
@@ -15,12 +15,12 @@ use Rattle.ck_prog.specs.Tags.{nothing_around}
 use Rattle.ck_prog.specs.TypeClasses.{is_void}
 use Rattle.ck_prog.specs.TypedBodies.{DeclaredFacts, TypedFunction, TypedExternal, TypedFile, FileDeclaration}
 use Rattle.ck_prog.specs.TypedBodies.{FunctionDefinition}
-use Rattle.ck_prog.specs.TypedDeclarations.{Specified, specified, text_or_nothing, after_declaration, typed_declaration}
+use Rattle.ck_prog.specs.TypedDeclarations.{specified, text_or_nothing, after_declaration, typed_declaration}
 use Rattle.ck_prog.specs.TypedDeclarations.{in_whole_declarator}
-use Rattle.ck_prog.specs.TypedExpressions.{in_specifiers, in_declarator, in_params, declarator_facts, or_token}
+use Rattle.ck_prog.specs.TypedExpressions.{in_specifiers, in_params, or_token}
 use Rattle.ck_prog.specs.TypedExpressions.{first_of_specifiers}
 use Rattle.ck_prog.specs.TypedStatements.{Enclosing, after_items, typed_items}
-use Rattle.ck_prog.specs.TypedTrees.{TypeParts, NoParts, WholeDeclarator, OfDeclaration}
+use Rattle.ck_prog.specs.TypedTrees.{TypeParts, NoParts}
 use Rattle.ck_prog.specs.Typing.{derivations, after_specifiers, after_declarator, name_of}
 use Rattle.ck_prog.specs.declared.names.Defining.TheVariants.{Defines}
 
@@ -29,7 +29,7 @@ pub record ReadFile : Type 0 where
   pub bytes : List ℕ
   pub externals : List External
 
--- function definitions (6.9.1) -----------------------------------------------------------------------------------------
+-- function definitions (6.9.1) ---------------------------------------------------------------------------------------
 
 abbrev pub result_of_type : Option CType → Option CType
 result_of_type (Some (Function q t ps more)) = Some t
@@ -82,7 +82,7 @@ typed_function p opening s d is =
       items = typed_items (at_body p s d) (enclosed_by entry) is;
     }
 
--- files ----------------------------------------------------------------------------------------------------------------
+-- files --------------------------------------------------------------------------------------------------------------
 
 abbrev pub after_external : Place → External → Place
 after_external p (tree.FileDeclaration d) = after_declaration p d
@@ -102,7 +102,7 @@ abbrev pub typed_externals : Place → List External → List TypedExternal
 typed_externals p [] = []
 typed_externals p (x ∷ xs) = typed_external p x ∷ typed_externals (after_external p x) xs
 
--- projects: the files from a number on, after the declarations of those before -----------------------------------------
+-- projects: the files from a number on, after the declarations of those before ---------------------------------------
 
 abbrev pub at_file : List Entry → ℕ → List ℕ → Place
 at_file declared k bytes = record { declared = declared; file = k; bytes = bytes; scope = [] }

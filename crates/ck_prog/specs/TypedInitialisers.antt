@@ -10,16 +10,14 @@ use Rattle.ck_prog.specs.CurrentObjects.{Object, Open, PartsOf, WholeOf, whole_o
 use Rattle.ck_prog.specs.CurrentObjects.{is_string, is_for_string, designated, opened_at, member_in_object}
 use Rattle.ck_prog.specs.CurrentObjects.{element_in_object, is_array_or_missing}
 use Rattle.ck_prog.specs.Declarations.{Place, text}
-use Rattle.ck_prog.specs.Senses.{Sense}
 use Rattle.ck_prog.specs.TypedBodies.{InitialiserFacts, TypedInitialiser, TypedInitialisers, TypedDesignators, Value}
 use Rattle.ck_prog.specs.TypedBodies.{Braces, NoInitialisers, Initialiser, NoDesignators, ToMember, ToElement}
-use Rattle.ck_prog.specs.TypedExpressions as expressions
 use Rattle.ck_prog.specs.TypedExpressions.{typed_expression}
 use Rattle.ck_prog.specs.TypedTrees.{Typed, facts}
 use Rattle.ck_prog.specs.Typing.{sense, after}
 use Rattle.ck_prog.specs.declared.operators.Role.TheVariants.{Whole, Value as AsValue}
 
--- the place after ------------------------------------------------------------------------------------------------------
+-- the place after ----------------------------------------------------------------------------------------------------
 
 abbrev pub after_designators : Place → Designators → Place
 after_designators p (Equals equals) = p
@@ -40,7 +38,7 @@ abbrev mutual
   after_initialisers p (NextInit ds i comma rest) =
       after_initialisers (after_initialiser (after_designation p ds) i) rest
 
--- what is open ---------------------------------------------------------------------------------------------------------
+-- what is open -------------------------------------------------------------------------------------------------------
 
 -- 6.7.8: the braces hold a string alone
 abbrev pub is_only_string : Inits → Bool
@@ -52,15 +50,15 @@ is_aggregate (Some (Array q t n)) = true
 is_aggregate (Some (Struct s)) = true
 is_aggregate _ = false
 
--- 6.7.8: in braces are the initialisers of the parts of an array or struct; but a scalar, or an array of characters that
--- a string initialises, may have braces round its one initialiser
+-- 6.7.8: in braces are the initialisers of the parts of an array or struct; but a scalar, or an array of characters
+-- that a string initialises, may have braces round its one initialiser
 abbrev pub opened_by : Bool → Option Object → List Open
 opened_by only_string None = []
 opened_by only_string (Some o) =
     if is_aggregate o.type && not (only_string && is_for_string o.type) then PartsOf o 0 ∷ [] else WholeOf o 0 ∷ []
 
--- what is open for an initialiser: what its designators name, in the object of the braces, else what is next; and where it
--- is an expression, its first part that the expression is for
+-- what is open for an initialiser: what its designators name, in the object of the braces, else what is next; and
+-- where it is an expression, its first part that the expression is for
 abbrev pub opened_for : Place → Option Object → List Open → Option Designators → List Open
 opened_for p o os None = os
 opened_for p o os (Some ds) = designated p o [] ds
@@ -69,7 +67,7 @@ abbrev pub narrowed : Place → Init → List Open → List Open
 narrowed p (tree.Value e) os = down_to p e os
 narrowed p (tree.Braced opening is closing) os = os
 
--- designators ----------------------------------------------------------------------------------------------------------
+-- designators --------------------------------------------------------------------------------------------------------
 
 abbrev pub is_array_object : Option Object → Bool
 is_array_object None = true
@@ -90,7 +88,7 @@ abbrev pub typed_designation : Place → Option Object → Option Designators �
 typed_designation p o None = NoDesignators
 typed_designation p o (Some ds) = typed_designators p o [] ds
 
--- initialisers ---------------------------------------------------------------------------------------------------------
+-- initialisers -------------------------------------------------------------------------------------------------------
 
 abbrev pub facts_for : Bool → Option Object → Token → InitialiserFacts
 facts_for static o first = record { object = o; first = first; static = static }
@@ -119,7 +117,7 @@ abbrev mutual
 abbrev pub typed_whole : Place → Bool → Option CType → Init → TypedInitialiser
 typed_whole p static t i = typed_initialiser p static (Some (whole_object t)) i
 
--- parts ----------------------------------------------------------------------------------------------------------------
+-- parts --------------------------------------------------------------------------------------------------------------
 
 -- an expression, and the object or part that it initialises
 pub record InitialisedPart : Type 0 where

@@ -1,7 +1,6 @@
--- The typed tree of a statement at a place, and the place after it (C99 6.8). The statements of a body are in a scope; `if`,
--- `switch`, `while`, `do` and `for` are scopes of their own, and so are the statements in them (6.8.4, 6.8.5).
-use Rattle.std.specs.Prelude.{ℕ, ℤ, Bool, true, false, ◌||◌, List, [], ◌∷◌, Option, Some, None, if◌then◌else◌}
-use Rattle.std.specs.Option.{is_some}
+-- The typed tree of a statement at a place, and the place after it (C99 6.8). The statements of a body are in a scope;
+-- `if`, `switch`, `while`, `do` and `for` are scopes of their own, and so are the statements in them (6.8.4, 6.8.5).
+use Rattle.std.specs.Prelude.{ℤ, Bool, true, ◌||◌, Option, Some, None, if◌then◌else◌}
 use Rattle.ck_base.specs.declared.tokens.Token.{Token}
 use Rattle.ck_grammar.specs.Statements as tree
 use Rattle.ck_grammar.specs.Statements.{ForStart, Statement, BlockItems, Block, Empty, ExpressionStatement, If, IfElse}
@@ -17,7 +16,7 @@ use Rattle.ck_prog.specs.TypedBodies as typed
 use Rattle.ck_prog.specs.TypedBodies.{TypedStatement, TypedItems, TypedStart, Jumping, Breaks, Continues, NoItems}
 use Rattle.ck_prog.specs.TypedDeclarations.{after_declaration, typed_declaration}
 use Rattle.ck_prog.specs.TypedExpressions.{typed_expression}
-use Rattle.ck_prog.specs.TypedTrees.{Typed, facts}
+use Rattle.ck_prog.specs.TypedTrees.{Typed}
 use Rattle.ck_prog.specs.Typing.{sense, after}
 use Rattle.ck_prog.specs.declared.operators.Role.TheVariants.{Value}
 
@@ -54,7 +53,7 @@ abbrev pub has_target : Enclosing → Jumping → Bool
 has_target around Breaks = around.loop || around.switch
 has_target around Continues = around.loop
 
--- the place after ------------------------------------------------------------------------------------------------------
+-- the place after ----------------------------------------------------------------------------------------------------
 
 abbrev pub after_maybe : Place → Option Expr → Place
 after_maybe p None = p
@@ -104,7 +103,7 @@ abbrev mutual
   after_items p (DeclarationItem d rest) = after_items (after_declaration p d) rest
   after_items p (StatementItem s rest) = after_items (after_statement p s) rest
 
--- typed trees ----------------------------------------------------------------------------------------------------------
+-- typed trees --------------------------------------------------------------------------------------------------------
 
 abbrev pub typed_maybe : Place → Option Expr → Option Typed
 typed_maybe p None = None
