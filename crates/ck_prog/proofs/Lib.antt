@@ -30,3 +30,4 @@ mod WorkedBodies
 mod WorkedSettings
 mod WorkedCorners
 mod WorkedFirmware
+mod WorkedCalls

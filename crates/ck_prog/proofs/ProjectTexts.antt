@@ -65,7 +65,7 @@ abbrev with_first : Option ReadFile → Option (List ReadFile) → Option (List 
 with_first (Some f) (Some fs) = Some (f ∷ fs)
 with_first _ _ = None
 
-abbrev read_from : ℕ → List File → Option (List ReadFile)
+abbrev pub read_from : ℕ → List File → Option (List ReadFile)
 read_from k [] = Some []
 read_from k (f ∷ fs) = with_first (read_words k (without_mark (words_of f))) (read_from (suc k) fs)
 

@@ -4,6 +4,7 @@
 use Rattle.std.specs.Prelude.{ℕ, Bool, false, ◌&&◌, ◌||◌, ◌==◌, nat_lt, List, [], ◌∷◌, count_by}
 use Rattle.std.specs.Prelude.{Option, Some, None, if◌then◌else◌}
 use Rattle.std.specs.List.{list_any}
+use Rattle.std.specs.Option.{is_some}
 use Rattle.std.specs.Str.{bytes_eq}
 use Rattle.ck_base.specs.declared.tokens.Token.{Token}
 use Rattle.ck_types.specs.Types.{StructIdentity, CType, Function, same_struct}
@@ -43,7 +44,8 @@ slot_of (Member m) = if holds (unqualified_type m.type) then Some (OfMember m.of
 slot_of (FunctionNamed t l Defines) = if gives_function_pointer t then Some OfResult else None
 slot_of _ = None
 
--- an earlier declaration of the same variable or member
+-- an earlier declaration of one variable or member: a prototype's parameter, which may be that of the definition, is
+-- none
 abbrev pub is_of_member : StructIdentity → Meaning → Bool
 is_of_member s (Member m) = same_struct s m.of
 is_of_member s _ = false
@@ -56,7 +58,8 @@ declares_too e OfResult d = false
 abbrev pub slot_if_first : Entry → List Entry → Option SlotOf → List Slot → List Slot
 slot_if_first e before None more = more
 slot_if_first e before (Some of) more =
-    if list_any (declares_too e of) before then more else record { of = of; at = e.at } ∷ more
+    if list_any (λ d. is_some (slot_of d.meaning) && declares_too e of d) before then more
+    else record { of = of; at = e.at } ∷ more
 
 -- all slots of these declarations
 abbrev pub slots : List Entry → List Slot
