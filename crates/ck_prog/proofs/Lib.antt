@@ -12,6 +12,8 @@ mod OperatorsFit
 mod SensesFit
 -- bodies_declare
 mod BodiesDeclare
+-- calls_ascend
+mod CallsAscend
 -- tells_the_first, tells_some
 mod FirstRefused
 -- Worked texts

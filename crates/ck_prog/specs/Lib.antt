@@ -41,5 +41,6 @@ pub mod BodyLaws
 -- What flow stands on: paths, calls, slots, names of the settings
 pub mod Paths
 pub mod Calls
+pub mod PathOrder
 pub mod Slots
 pub mod SettingsNames
