@@ -19,11 +19,14 @@ mod FirstRefused
 -- Worked texts
 mod Texts
 mod Walks
+mod Rows
 mod Worked
+mod WorkedOperators
+mod WorkedNames
 mod WorkedTrees
 -- Worked projects, by the numbers of their refusals
 mod ProjectTexts
-mod WorkedNames
+mod WorkedScopes
 mod WorkedLinks
 mod WorkedConstants
 mod WorkedTypes

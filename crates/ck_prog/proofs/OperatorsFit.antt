@@ -169,7 +169,7 @@ element_fits p a b = from_types_fits (value_type a) (value_type b) (element_by p
 
 result_by_fits : (p : Place) (arguments : List Sense) (t : CType) → Fits (result_by p arguments t)
 result_by_fits p arguments (Pointer q (Function r t ps more)) =
-    value_if_fits (are_arguments ps more arguments && (is_void t || is_complete p t)) t
+    value_if_fits (are_arguments p ps more arguments && (is_void t || is_complete p t)) t
 result_by_fits p arguments _ = refl
 
 pub result_fits : (p : Place) (called : Sense) (arguments : List Sense) → Fits (result p called arguments)

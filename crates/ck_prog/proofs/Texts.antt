@@ -16,9 +16,11 @@ use Rattle.ck_grammar.specs.Trees.{Expr, Declarator}
 use Rattle.ck_grammar.specs.Words.{words, ◌∈words◌, word_of}
 use Rattle.ck_prog.specs.BaseTypes.{base_type}
 use Rattle.ck_prog.specs.Declarations.{Entry, Meaning, Place, meant, meaning_of, inside, outside}
+use Rattle.ck_types.specs.Types.{CType}
+use Rattle.ck_prog.specs.Declaring.{at_body}
 use Rattle.ck_prog.specs.Declaring.{alone, after_first_specifiers, after_declared, after_function_name, defined_params}
-use Rattle.ck_prog.specs.Linking.{StorageClass, storage_class}
-use Rattle.ck_prog.specs.Senses.{Sense, no_type}
+use Rattle.ck_prog.specs.Linking.{StorageClass, storage_class, type_of}
+use Rattle.ck_prog.specs.Senses.{Sense, Constancy, no_type}
 use Rattle.ck_prog.specs.TypeClasses.{Qualified}
 use Rattle.ck_prog.specs.TypedExpressions.{typed_expression}
 use Rattle.ck_prog.specs.TypedTrees.{Typed}
@@ -60,7 +62,7 @@ tokens_of file line = tokens_from file 0 (words line)
 abbrev pub expression_of : List (List ℕ) → String → Option (Expr × List Token)
 expression_of typedefs line = expr_at (word_of (codes line) typedefs) most level.comma (tokens_of 0 line)
 
-abbrev or_empty : Option (List External) → List External
+abbrev pub or_empty : Option (List External) → List External
 or_empty None = []
 or_empty (Some xs) = xs
 
@@ -87,7 +89,7 @@ after_external p (FunctionDefinition s d opening items closing) =
     let q = after_function_name p s d in
     outside q (after_params Defines (inside q) (defined_params d))
 
-abbrev after_externals : Place → List External → Place
+abbrev pub after_externals : Place → List External → Place
 after_externals p [] = p
 after_externals p (x ∷ xs) = after_externals (after_external p x) xs
 
@@ -105,10 +107,10 @@ abbrev pub means : String → String → Option Meaning
 means line name = meaning_of (meant (after_text line) (codes name))
 
 -- in another text of the same file, as if it began there
-abbrev in_text : Place → String → Place
+abbrev pub in_text : Place → String → Place
 in_text p line = record p { bytes = codes line }
 
-abbrev sense_of_read : Place → Option (Expr × List Token) → Sense
+abbrev pub sense_of_read : Place → Option (Expr × List Token) → Sense
 sense_of_read p None = no_type
 sense_of_read p (Some e) = sense p e.0
 
@@ -127,3 +129,40 @@ typed_of_read p (Some e) = Some (typed_expression p Value e.0)
 -- the typed tree of an expression after a file
 abbrev pub typed_in : String → String → Option Typed
 typed_in line expression = typed_of_read (in_text (after_text line) expression) (expression_of [] expression)
+
+-- the place where the body of the last function begins
+abbrev body_of : Place → External → Place
+body_of p (FunctionDefinition s d opening items closing) = at_body p s d
+body_of p (FileDeclaration d) = p
+
+abbrev last_body : Place → List External → Place
+last_body p [] = p
+last_body p (x ∷ []) = body_of p x
+last_body p (x ∷ y ∷ xs) = last_body (after_external p x) (y ∷ xs)
+
+abbrev pub in_body : String → Place
+in_body line = last_body (record { declared = []; file = 0; bytes = codes line; scope = [] }) (externals_of 0 line)
+
+-- the sense of an expression in the body of the last function
+abbrev pub sense_in_body : String → String → Sense
+sense_in_body line expression = sense_of_read (in_text (in_body line) expression) (expression_of [] expression)
+
+abbrev type_of_meaning : Option Meaning → Option CType
+type_of_meaning None = None
+type_of_meaning (Some m) = type_of m
+
+-- the types of names after a file
+abbrev pub types_at : Place → List String → List (Option CType)
+types_at p [] = []
+types_at p (name ∷ names) = type_of_meaning (meaning_of (meant p (codes name))) ∷ types_at p names
+
+abbrev pub types_of : String → List String → List (Option CType)
+types_of line names = types_at (after_text line) names
+
+abbrev constancies_at : Place → List String → List Constancy
+constancies_at p [] = []
+constancies_at p (e ∷ es) = (sense_of_read (in_text p e) (expression_of [] e)).constancy ∷ constancies_at p es
+
+-- whether expressions are constant after a file
+abbrev pub constancies : String → List String → List Constancy
+constancies line es = constancies_at (after_text line) es

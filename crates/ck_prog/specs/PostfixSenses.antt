@@ -34,17 +34,19 @@ abbrev pub is_value : Option CType → Bool
 is_value None = false
 is_value (Some t) = not (is_void t)
 
--- 6.5.2.2: each argument may be assigned to its parameter; there are more arguments only after `...`
-abbrev pub are_arguments : Parameters → Bool → List Sense → Bool
-are_arguments NoParameters more [] = true
-are_arguments NoParameters more (s ∷ ss) = more && is_value (value_type s) && are_arguments NoParameters more ss
-are_arguments (Parameter t ps) more [] = false
-are_arguments (Parameter t ps) more (s ∷ ss) = is_assignable t s && are_arguments ps more ss
+-- 6.5.2.2: each argument may be assigned to an object of its parameter's type; there are more arguments only after
+-- `...`
+abbrev pub are_arguments : Place → Parameters → Bool → List Sense → Bool
+are_arguments p NoParameters more [] = true
+are_arguments p NoParameters more (s ∷ ss) = more && is_value (value_type s) && are_arguments p NoParameters more ss
+are_arguments p (Parameter t ps) more [] = false
+are_arguments p (Parameter t ps) more (s ∷ ss) =
+    is_complete p t && is_assignable t s && are_arguments p ps more ss
 
 -- 6.5.2.2: the result is of type `void` or of a complete type
 abbrev pub result_by : Place → List Sense → CType → Sense
 result_by p arguments (Pointer q (Function r t ps more)) =
-    value_if (are_arguments ps more arguments && (is_void t || is_complete p t)) t
+    value_if (are_arguments p ps more arguments && (is_void t || is_complete p t)) t
 result_by p arguments _ = no_type
 
 abbrev pub result : Place → Sense → List Sense → Sense
