@@ -36,3 +36,4 @@ mod WorkedSettings
 mod WorkedCorners
 mod WorkedFirmware
 mod WorkedCalls
+mod WorkedInitialisers

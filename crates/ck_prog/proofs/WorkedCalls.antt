@@ -1,23 +1,18 @@
 -- Worked paths and calls, parts of initialisers, slots and names of settings, computed on the definitions.
 use Rattle.std.proofs.Common.{◌≡◌, refl}
-use Rattle.std.specs.Prelude.{ℕ, true, false, List, [], ◌∷◌, ◌++◌, codes, map, Option, Some, None}
+use Rattle.std.specs.Prelude.{ℕ, List, [], ◌∷◌, ◌++◌, codes, map, Option, Some, None}
 use Rattle.ck_graph.specs.declared.points.ActName.{ActName}
 use Rattle.ck_graph.specs.declared.points.ActName.TheVariants.{Kernel, Outside}
 use Rattle.ck_kernel.specs.KernelTable.{kernel_table}
-use Rattle.ck_types.specs.Types.{CType, Pointer, Array}
 use Rattle.ck_prog.specs.Acts.{Project}
 use Rattle.ck_prog.specs.Calls.{CallKind, Acts, Direct, Through, calls_of_function, functions_of, call_kind}
 use Rattle.ck_prog.specs.Calls.{numbered_calls}
 use Rattle.ck_prog.specs.Declarations.{Entry}
 use Rattle.ck_prog.specs.SettingsNames.{callback_slot}
 use Rattle.ck_prog.specs.Slots.{Slot, slots, slot_number}
-use Rattle.ck_prog.specs.TypeClasses.{plain, int, char}
-use Rattle.ck_prog.specs.TypedBodies as bodies
-use Rattle.ck_prog.specs.TypedBodies.{TypedFile, TypedFunction, TypedExternal, TypedDeclarators, TypedDeclaration}
+use Rattle.ck_prog.specs.TypedBodies.{TypedFile, TypedFunction}
 use Rattle.ck_prog.specs.TypedFiles.{ReadFile, declarations, typed_files}
-use Rattle.ck_prog.specs.TypedInitialisers.{InitialisedPart, parts}
 use Rattle.ck_prog.proofs.ProjectTexts.{File, read_from}
-use Prim.Native.String.{String}
 
 -- a project as it is read, or nothing
 abbrev files_or_nothing : Option (List ReadFile) → List ReadFile
@@ -136,55 +131,3 @@ callback = refl
 no_callback : start_of (callback_slot (declared (("struct g { int cb ; } ;" ∷ []) ∷ [])) (codes "g") (codes "cb"))
     ≡ None
 no_callback = refl
-
--- initialisers: the path and the type of each value ------------------------------------------------------------------
-
-abbrev placed : List InitialisedPart → List (List ℕ × Option CType)
-placed [] = []
-placed (i ∷ is) = (i.object.path, i.object.type) ∷ placed is
-
-abbrev parts_given : Option bodies.TypedInitialiser → List (List ℕ × Option CType)
-parts_given None = []
-parts_given (Some i) = placed (parts i)
-
-abbrev parts_of_first : TypedDeclarators → List (List ℕ × Option CType)
-parts_of_first bodies.NoDeclared = []
-parts_of_first (bodies.Declared written f i rest) = parts_given i
-
-abbrev parts_in_declaration : TypedDeclaration → List (List ℕ × Option CType)
-parts_in_declaration (bodies.Declaration first written ds) = parts_of_first ds
-
-abbrev parts_in_last : List TypedExternal → List (List ℕ × Option CType)
-parts_in_last [] = []
-parts_in_last (bodies.FileDeclaration d ∷ []) = parts_in_declaration d
-parts_in_last (x ∷ xs) = parts_in_last xs
-
-abbrev parts_in_files : List TypedFile → List (List ℕ × Option CType)
-parts_in_files [] = []
-parts_in_files (f ∷ fs) = parts_in_last f.externals
-
--- of the initialiser in the last declaration
-abbrev initialised : String → List (List ℕ × Option CType)
-initialised line = parts_in_files (typed ((line ∷ []) ∷ []))
-
--- 6.7.8, example 3: rows with and without braces
-rows : initialised "int y [ 4 ] [ 3 ] = { { 1 , 3 } , 2 , 4 , 6 , [ 3 ] = { 7 } } ;"
-    ≡ (0 ∷ 0 ∷ [], Some int) ∷ (0 ∷ 1 ∷ [], Some int) ∷ (1 ∷ 0 ∷ [], Some int) ∷ (1 ∷ 1 ∷ [], Some int)
-    ∷ (1 ∷ 2 ∷ [], Some int) ∷ (3 ∷ 0 ∷ [], Some int) ∷ []
-rows = refl
-
--- 6.7.8, example 10: a struct of arrays in an array
-nested : initialised "struct { int a [ 3 ] , b ; } w [ ] = { { 1 } , 2 } ;"
-    ≡ (0 ∷ 0 ∷ 0 ∷ [], Some int) ∷ (1 ∷ 0 ∷ 0 ∷ [], Some int) ∷ []
-nested = refl
-
--- a string for a row, a character, a pointer
-strings : initialised "struct { char s [ 4 ] ; char c ; const char * p ; } w = { \"ab\" , 'c' , \"d\" } ;"
-    ≡ (0 ∷ [], Some (Array plain char (Some 4))) ∷ (1 ∷ [], Some char)
-    ∷ (2 ∷ [], Some (Pointer (record { constant = true; volatile = false }) char)) ∷ []
-strings = refl
-
--- after a designated part comes the next one around it
-designated : initialised
-    "struct t { struct { int a , b ; } p [ 2 ] ; int q ; } w = { . p [ 1 ] . b = 3 , 4 , . p = { 1 } } ;" ≡ (0 ∷ 1 ∷ 1 ∷ [], Some int) ∷ (1 ∷ [], Some int) ∷ (0 ∷ 0 ∷ 0 ∷ [], Some int) ∷ []
-designated = refl

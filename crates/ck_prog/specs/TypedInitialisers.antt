@@ -119,20 +119,20 @@ typed_whole p static t i = typed_initialiser p static (Some (whole_object t)) i
 
 -- parts --------------------------------------------------------------------------------------------------------------
 
--- an expression, and the object or part that it initialises
+-- the object or part that an expression initialises; without an expression, all of it is zero, where braces for it begin
 pub record InitialisedPart : Type 0 where
   pub object : Object
-  pub value : Typed
+  pub value : Option Typed
 
-abbrev pub part_of : Option Object → Typed → List InitialisedPart
+abbrev pub part_of : Option Object → Option Typed → List InitialisedPart
 part_of None x = []
 part_of (Some o) x = record { object = o; value = x } ∷ []
 
--- in written order: a later one of a part replaces an earlier one
+-- 6.7.8: in written order, so that a later one replaces an earlier one of the same object or of a part of it
 abbrev mutual
   pub parts : TypedInitialiser → List InitialisedPart
-  parts (Value f x) = part_of f.object x
-  parts (Braces f is) = parts_of is
+  parts (Value f x) = part_of f.object (Some x)
+  parts (Braces f is) = part_of f.object None ++ parts_of is
 
   pub parts_of : TypedInitialisers → List InitialisedPart
   parts_of NoInitialisers = []
@@ -142,6 +142,10 @@ abbrev mutual
 abbrev pub elements_of : Option CType → Option ℕ
 elements_of (Some (Array q t n)) = n
 elements_of _ = None
+
+abbrev pub type_of_value : Option Typed → Option CType
+type_of_value None = None
+type_of_value (Some x) = (facts x).sense.type
 
 abbrev pub elements_needed : List ℕ → Option CType → Option ℕ
 elements_needed [] value = elements_of value
@@ -155,7 +159,7 @@ greater (Some n) (Some m) = Some (max n m)
 -- 6.7.8: the size of an array of unknown size is determined by the largest indexed element with an initialiser
 abbrev pub size_needed : List InitialisedPart → Option ℕ
 size_needed [] = None
-size_needed (i ∷ is) = greater (elements_needed i.object.path (facts i.value).sense.type) (size_needed is)
+size_needed (i ∷ is) = greater (elements_needed i.object.path (type_of_value i.value)) (size_needed is)
 
 abbrev pub size_given : TypedInitialiser → Option ℕ
 size_given i = size_needed (parts i)
