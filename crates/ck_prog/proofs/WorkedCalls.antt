@@ -50,7 +50,8 @@ in_row = refl
 
 -- statements: an absent test of `for` keeps its number; nothing under `sizeof` is evaluated
 in_statements : paths ("int f ( void ) { return 0 ; } void g ( int n ) { for ( n = f ( ) ; ; f ( ) ) {"
-    ∷ "switch ( f ( ) ) { case 1 : default : f ( ) ; } } do if ( sizeof ( f ( ) ) ) f ( ) ; else f ( ) ; while ( f ( ) ) ; }" ∷ [])
+    ∷ "switch ( f ( ) ) { case 1 : default : f ( ) ; } } do if ( sizeof ( f ( ) ) ) f ( ) ; else f ( ) ;"
+    ∷ "while ( f ( ) ) ; }" ∷ [])
     ≡ [] ∷ ((0 ∷ 0 ∷ 1 ∷ 1 ∷ []) ∷ (0 ∷ 2 ∷ 1 ∷ []) ∷ (0 ∷ 3 ∷ 0 ∷ 0 ∷ 1 ∷ [])
     ∷ (0 ∷ 3 ∷ 0 ∷ 1 ∷ 0 ∷ 1 ∷ 0 ∷ 0 ∷ 1 ∷ []) ∷ (1 ∷ 0 ∷ 1 ∷ 0 ∷ 1 ∷ []) ∷ (1 ∷ 0 ∷ 2 ∷ 0 ∷ 1 ∷ [])
     ∷ (1 ∷ 1 ∷ 1 ∷ []) ∷ []) ∷ []

@@ -90,5 +90,77 @@ strings = refl
 
 -- after a designated part comes the next one around it
 designated : placed (initialised
-    "struct t { struct { int a , b ; } p [ 2 ] ; int q ; } w = { . p [ 1 ] . b = 3 , 4 , . p = { 1 } } ;") ≡ (0 ∷ 1 ∷ 1 ∷ [], Some int) ∷ (1 ∷ [], Some int) ∷ (0 ∷ 0 ∷ 0 ∷ [], Some int) ∷ []
+    "struct t { struct { int a , b ; } p [ 2 ] ; int q ; } w = { . p [ 1 ] . b = 3 , 4 , . p = { 1 } } ;")
+    ≡ (0 ∷ 1 ∷ 1 ∷ [], Some int) ∷ (1 ∷ [], Some int) ∷ (0 ∷ 0 ∷ 0 ∷ [], Some int) ∷ []
 designated = refl
+
+-- integers in arrays and structs, with left-out braces, designators and both: what is at each path (6.7.8). Compilers
+-- give the same.
+mixed_1 : values "int w [ 3 ] = { [ 0 ] = 1 , [ 0 ] = { 2 } , 3 , [ 0 ] = 4 } ;"
+    ((0 ∷ []) ∷ (1 ∷ []) ∷ (2 ∷ []) ∷ [])
+    ≡ pos 4 ∷ pos 3 ∷ pos 0 ∷ []
+mixed_1 = refl
+
+mixed_2 : values "struct { int m0 ; } w [ 2 ] [ 3 ] = { 1 , [ 0 ] [ 0 ] . m0 = 2 } ;"
+    ((0 ∷ 0 ∷ 0 ∷ []) ∷ (0 ∷ 1 ∷ 0 ∷ []) ∷ (0 ∷ 2 ∷ 0 ∷ []) ∷ (1 ∷ 0 ∷ 0 ∷ []) ∷ (1 ∷ 1 ∷ 0 ∷ [])
+    ∷ (1 ∷ 2 ∷ 0 ∷ []) ∷ [])
+    ≡ pos 2 ∷ pos 0 ∷ pos 0 ∷ pos 0 ∷ pos 0 ∷ pos 0 ∷ []
+mixed_2 = refl
+
+mixed_3 : values "int w [ 2 ] [ 2 ] = { 1 , [ 0 ] [ 0 ] = 2 , [ 1 ] = { 3 , 4 , 5 } } ;"
+    ((0 ∷ 0 ∷ []) ∷ (0 ∷ 1 ∷ []) ∷ (1 ∷ 0 ∷ []) ∷ (1 ∷ 1 ∷ []) ∷ [])
+    ≡ pos 2 ∷ pos 0 ∷ pos 3 ∷ pos 4 ∷ []
+mixed_3 = refl
+
+mixed_4 : values "struct { int m0 [ 2 ] ; } w [ ] = { [ 0 ] . m0 = { [ 1 ] = 1 } } ;"
+    ((0 ∷ 0 ∷ 0 ∷ []) ∷ (0 ∷ 0 ∷ 1 ∷ []) ∷ [])
+    ≡ pos 0 ∷ pos 1 ∷ []
+mixed_4 = refl
+
+mixed_5 : values "struct { int m0 [ 3 ] [ 2 ] ; } w = { . m0 [ 1 ] [ 0 ] = 1 , 2 , 3 , 4 } ;"
+    ((0 ∷ 0 ∷ 0 ∷ []) ∷ (0 ∷ 0 ∷ 1 ∷ []) ∷ (0 ∷ 1 ∷ 0 ∷ []) ∷ (0 ∷ 1 ∷ 1 ∷ []) ∷ (0 ∷ 2 ∷ 0 ∷ [])
+    ∷ (0 ∷ 2 ∷ 1 ∷ []) ∷ [])
+    ≡ pos 0 ∷ pos 0 ∷ pos 1 ∷ pos 2 ∷ pos 3 ∷ pos 4 ∷ []
+mixed_5 = refl
+
+mixed_6 : values "int w [ 2 ] [ 3 ] = { [ 0 ] = 1 , [ 0 ] = 2 , 3 , [ 1 ] [ 0 ] = 4 } ;"
+    ((0 ∷ 0 ∷ []) ∷ (0 ∷ 1 ∷ []) ∷ (0 ∷ 2 ∷ []) ∷ (1 ∷ 0 ∷ []) ∷ (1 ∷ 1 ∷ []) ∷ (1 ∷ 2 ∷ []) ∷ [])
+    ≡ pos 2 ∷ pos 3 ∷ pos 0 ∷ pos 4 ∷ pos 0 ∷ pos 0 ∷ []
+mixed_6 = refl
+
+mixed_7 : values "int w [ 2 ] [ 2 ] [ 2 ] = { [ 0 ] [ 1 ] [ 1 ] = 1 , 2 , { { 3 } } } ;"
+    ((0 ∷ 0 ∷ 0 ∷ []) ∷ (0 ∷ 0 ∷ 1 ∷ []) ∷ (0 ∷ 1 ∷ 0 ∷ []) ∷ (0 ∷ 1 ∷ 1 ∷ []) ∷ (1 ∷ 0 ∷ 0 ∷ [])
+    ∷ (1 ∷ 0 ∷ 1 ∷ []) ∷ (1 ∷ 1 ∷ 0 ∷ []) ∷ (1 ∷ 1 ∷ 1 ∷ []) ∷ [])
+    ≡ pos 0 ∷ pos 0 ∷ pos 0 ∷ pos 1 ∷ pos 2 ∷ pos 3 ∷ pos 0 ∷ pos 0 ∷ []
+mixed_7 = refl
+
+mixed_8 : values "struct { int m0 [ 2 ] ; } w [ 2 ] = { [ 1 ] = { . m0 = 1 , . m0 = { 2 , 3 } } , 4 } ;"
+    ((0 ∷ 0 ∷ 0 ∷ []) ∷ (0 ∷ 0 ∷ 1 ∷ []) ∷ (1 ∷ 0 ∷ 0 ∷ []) ∷ (1 ∷ 0 ∷ 1 ∷ []) ∷ [])
+    ≡ pos 0 ∷ pos 0 ∷ pos 2 ∷ pos 3 ∷ []
+mixed_8 = refl
+
+mixed_9 : values "struct { int m0 [ 2 ] [ 2 ] ; } w = { . m0 = 1 , 2 , . m0 [ 1 ] [ 0 ] = 3 , 4 } ;"
+    ((0 ∷ 0 ∷ 0 ∷ []) ∷ (0 ∷ 0 ∷ 1 ∷ []) ∷ (0 ∷ 1 ∷ 0 ∷ []) ∷ (0 ∷ 1 ∷ 1 ∷ []) ∷ [])
+    ≡ pos 1 ∷ pos 2 ∷ pos 3 ∷ pos 4 ∷ []
+mixed_9 = refl
+
+mixed_10 : values "struct { int m0 [ 2 ] ; } w [ 3 ] = { [ 2 ] . m0 [ 1 ] = 1 , [ 1 ] . m0 = 2 } ;"
+    ((0 ∷ 0 ∷ 0 ∷ []) ∷ (0 ∷ 0 ∷ 1 ∷ []) ∷ (1 ∷ 0 ∷ 0 ∷ []) ∷ (1 ∷ 0 ∷ 1 ∷ []) ∷ (2 ∷ 0 ∷ 0 ∷ [])
+    ∷ (2 ∷ 0 ∷ 1 ∷ []) ∷ [])
+    ≡ pos 0 ∷ pos 0 ∷ pos 2 ∷ pos 0 ∷ pos 0 ∷ pos 1 ∷ []
+mixed_10 = refl
+
+mixed_11 : values "struct { int m0 [ 2 ] [ 2 ] ; } w = { 1 , . m0 [ 0 ] [ 0 ] = 2 , . m0 [ 0 ] = 3 , 4 } ;"
+    ((0 ∷ 0 ∷ 0 ∷ []) ∷ (0 ∷ 0 ∷ 1 ∷ []) ∷ (0 ∷ 1 ∷ 0 ∷ []) ∷ (0 ∷ 1 ∷ 1 ∷ []) ∷ [])
+    ≡ pos 3 ∷ pos 4 ∷ pos 0 ∷ pos 0 ∷ []
+mixed_11 = refl
+
+mixed_12 : values "struct { int m0 ; } w [ ] [ 2 ] = { [ 0 ] [ 1 ] = { . m0 = 1 } } ;"
+    ((0 ∷ 0 ∷ 0 ∷ []) ∷ (0 ∷ 1 ∷ 0 ∷ []) ∷ [])
+    ≡ pos 0 ∷ pos 1 ∷ []
+mixed_12 = refl
+
+mixed_13 : values "int w [ 2 ] [ 2 ] = { 1 , { 2 } , { [ 0 ] = 3 , 4 } , [ 0 ] = { 5 , 6 } , 7 } ;"
+    ((0 ∷ 0 ∷ []) ∷ (0 ∷ 1 ∷ []) ∷ (1 ∷ 0 ∷ []) ∷ (1 ∷ 1 ∷ []) ∷ [])
+    ≡ pos 5 ∷ pos 6 ∷ pos 7 ∷ pos 4 ∷ []
+mixed_13 = refl

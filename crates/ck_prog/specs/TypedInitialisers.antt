@@ -119,7 +119,8 @@ typed_whole p static t i = typed_initialiser p static (Some (whole_object t)) i
 
 -- parts --------------------------------------------------------------------------------------------------------------
 
--- the object or part that an expression initialises; without an expression, all of it is zero, where braces for it begin
+-- the object or part that an expression initialises; where braces for it begin there is no expression, and all of it is
+-- zero
 pub record InitialisedPart : Type 0 where
   pub object : Object
   pub value : Option Typed
