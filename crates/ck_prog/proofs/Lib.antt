@@ -10,6 +10,12 @@ mod Scopes
 mod KnownValues
 mod OperatorsFit
 mod SensesFit
+-- bodies_declare
+mod BodiesDeclare
+-- calls_ascend
+mod CallsAscend
+-- tells_the_first, tells_some
+mod FirstRefused
 -- Worked texts
 mod Texts
 mod Walks
@@ -18,3 +24,16 @@ mod Worked
 mod WorkedOperators
 mod WorkedNames
 mod WorkedTrees
+-- Worked projects, by the numbers of their refusals
+mod ProjectTexts
+mod WorkedScopes
+mod WorkedLinks
+mod WorkedConstants
+mod WorkedTypes
+mod WorkedFunctions
+mod WorkedBodies
+mod WorkedSettings
+mod WorkedCorners
+mod WorkedFirmware
+mod WorkedCalls
+mod WorkedInitialisers

@@ -39,7 +39,7 @@ and_then p q r c (AtOnce o) = c
 and_then p q r c (AfterName o s name at m d fit) = AfterName p s name at m (and_then p q s c d) fit
 and_then p q r c (AfterScope o s t d e) = AfterScope p s t (and_then p q s c d) e
 
-after_one : (p : Place) (name : List ℕ) (at : Token) (m : Meaning) → is_fitting m ≡ true
+pub after_one : (p : Place) (name : List ℕ) (at : Token) (m : Meaning) → is_fitting m ≡ true
     → ComesAfter p (declaring p name at m)
 after_one p name at m fit = AfterName p p name at m (AtOnce p) fit
 
@@ -253,7 +253,7 @@ mutual
 
 -- declarations --------------------------------------------------------------------------------------------------------
 
-after_with_declared : (p : Place) (class : StorageClass) (is_function initialised : Bool) (name : Option Token)
+pub after_with_declared : (p : Place) (class : StorageClass) (is_function initialised : Bool) (name : Option Token)
     (t : Option Qualified) → ComesAfter p (with_declared p class is_function initialised name t)
 after_with_declared p class is_function initialised None t = AtOnce p
 after_with_declared p class is_function initialised (Some name) t =

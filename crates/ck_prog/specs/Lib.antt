@@ -23,3 +23,24 @@ pub mod UnarySenses
 pub mod PostfixSenses
 pub mod Typing
 pub mod Declaring
+-- Bodies: initialisers, declarations, statements, files
+pub mod CurrentObjects
+pub mod TypedBodies
+pub mod TypedInitialisers
+pub mod TypedDeclarations
+pub mod TypedStatements
+pub mod TypedFiles
+-- What is refused, and where
+pub mod Sights
+pub mod Projects
+pub mod ExpressionRefusals
+pub mod BodyRefusals
+pub mod DeclarationRefusals
+pub mod Refused
+pub mod BodyLaws
+-- What flow stands on: paths, calls, slots, names of the settings
+pub mod Paths
+pub mod Calls
+pub mod PathOrder
+pub mod Slots
+pub mod SettingsNames
