@@ -1,4 +1,4 @@
-use Rattle.std.proofs.Common.{◌<◌, List, length, get_or, sym, subst, rules}
+use Rattle.std.proofs.Common.{◌<◌, List, length, get_or, sym, subst, arith}
 use Rattle.ck_graph.specs.Forbidden.{AreAlarms, ReachesAlarm}
 use Rattle.ck_summary.specs.declared.reached.AlarmAt.{AlarmAt}
 use Rattle.ck_summary.specs.Alarms.{alarm_of, alarms_of}
@@ -9,7 +9,8 @@ pub path_to-requires-clause-alarm : goal.path_to-requires-clause-alarm
 path_to-requires-clause-alarm c =
     let flow = c.in_ok-graph.graph in
     let found : List AlarmAt = c.in_ok-found.found.items in
-    let some : 0 < length c.in_ok-found.found.items = search rules in
+    let some : 0 < length c.in_ok-found.found.items =
+    omega (arith, c.len.ensures, c.in_ok-found.found.ok.0) in
     let are : AreAlarms flow c.in_ok-roots.roots.list.items (alarms_of found) =
     c.in_ok-found.ensures c.in_ok-roots.roots.list.items c.solve.ensures.solved in
     let alarm : AlarmAt = c.index.result.now in
