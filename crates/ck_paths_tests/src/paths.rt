@@ -85,10 +85,11 @@ fn path_alone(alloc: Global, case: &Case) -> Result<Option<Segments>, Fail> {
     let mut table = Table::new(alloc, &graph)?;
     solve(&graph, &roots, &mut table);
     let found = alarms(alloc, &graph, &table)?;
-    if found.is_empty() {
-        return Ok(None);
+    if found.len() > 0 {
+        let path = path_to(alloc, &graph, &roots, &table, &found[0])?;
+        return Ok(Some(path));
     }
-    Ok(Some(path_to(alloc, &graph, &roots, &table, &found[0])?))
+    Ok(None)
 }
 
 /// Whether the path of a case with one walk to its alarm is that walk.

@@ -153,7 +153,7 @@ fn walked_through(
     for state in STATES {
         if let Some(start) = start_of(graph, function, state)
             && let Some(end) = run(graph, lower, start, &segment.steps)
-            && end.point.0 == graph.exit(function).0
+            && ends_at(graph, function, end.point)
         {
             ends.push((state, end.state))?;
         }
@@ -250,6 +250,11 @@ pub fn replays(
         PointKind::Act(op, _) => Ok(act(*op, end.state) == Outcome::Alarm(alarm.kind)),
         _ => Ok(false),
     }
+}
+
+/// Whether a function returns at a point.
+fn ends_at(graph: &Graph, function: FnId, point: PointId) -> bool {
+    function.0 < graph.functions() && graph.exit(function).0 == point.0
 }
 
 /// Whether a function starts at a point.

@@ -1,17 +1,15 @@
 -- Steps that fit the states make matched paths, above any frames.
-use Rattle.std.proofs.Common.{◌≡◌, ◌<◌, ◌≤◌, ℕ, cond, List, [], ◌∷◌, ◌++◌, Some, None, true, false, length, slice_get, refl, sym, ap, ◌∙◌, subst, append_assoc, arith, length-append}
+use Rattle.std.proofs.Common.{◌≡◌, ◌≤◌, ℕ, List, [], ◌∷◌, ◌++◌, Some, length, slice_get, refl, sym, subst, arith, length-append}
 use Rattle.std.specs.Prelude.{slice_index_or}
 use Rattle.std.specs.List.{All}
 use Rattle.std.proofs.lemmas.List.Elements.{All-head, All-tail}
 use Rattle.std.proofs.lemmas.Option.{slice_get_within}
-use Rattle.ck_base.specs.declared.spans.FnId.{FnId}
 use Rattle.ck_base.specs.declared.states.State.{State}
-use Rattle.ck_graph.specs.declared.points.Edge.{Edge as EdgeOf}
 use Rattle.ck_graph.specs.declared.points.PointKind.{PointKind}
 use Rattle.ck_graph.specs.declared.points.PointKind.TheVariants.{Plain, Act, Call as CallPoint, Exit}
 use Rattle.ck_graph.specs.Flow.{Flow}
 use Rattle.ck_graph.specs.Faults.{IsSound}
-use Rattle.ck_graph.specs.Walk.{Move, TakeEdge, EnterTarget}
+use Rattle.ck_graph.specs.Walk.{Move, TakeEdge}
 use Rattle.ck_graph.specs.Steps.{kind_at, first_of, exit_of, HasEdge}
 use Rattle.ck_graph.specs.MatchedPath.{IsMatchedPath}
 use Rattle.ck_graph.proofs.MatchedPaths.{paths}

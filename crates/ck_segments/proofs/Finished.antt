@@ -1,9 +1,8 @@
 -- What the finished segments expand to, and that they lead through their functions.
-use Rattle.std.proofs.Common.{◌≡◌, ◌<◌, ◌≤◌, ◌+◌, ◌⊎◌, ℕ, zero, suc, cond, Bool, true, false, List, [], ◌∷◌, ◌++◌, Some, length, slice_get, take, refl, sym, ap, ◌∙◌, subst, append_assoc, inl, inr, arith, length-append}
+use Rattle.std.proofs.Common.{◌≡◌, ℕ, suc, cond, false, List, [], ◌∷◌, ◌++◌, Some, length, slice_get, take, refl, sym, ap, ◌∙◌, subst, append_assoc, inl, inr, arith, length-append}
 use Rattle.std.specs.Prelude.{slice_index_or}
 use Rattle.std.specs.List.{All}
 use Rattle.std.proofs.lemmas.List.Elements.{All-head, All-tail}
-use Rattle.std.proofs.lemmas.Option.{slice_get_within}
 use Rattle.ck_graph.specs.Flow.{Flow}
 use Rattle.ck_graph.specs.Faults.{IsSound}
 use Rattle.ck_graph.specs.Walk.{Move}
@@ -13,9 +12,9 @@ use Rattle.ck_segments.specs.declared.segments.Step.{Step}
 use Rattle.ck_segments.specs.declared.segments.Step.TheVariants.{Edge, Call, Enter}
 use Rattle.ck_segments.specs.Plain.{PlainSegment}
 use Rattle.ck_segments.specs.Expansion.{steps_moves, goes_in, is_unfinished, expand_from}
-use Rattle.ck_segments.specs.Form.{StaysWithin, IsFinished}
+use Rattle.ck_segments.specs.Form.{StaysWithin}
 use Rattle.ck_segments.specs.Runs.{Through, RunsThrough}
-use Rattle.ck_segments.proofs.Lists.{append-none, at-push, index-append, index-last}
+use Rattle.ck_segments.proofs.Lists.{append-none, at-push, index-last}
 use Rattle.ck_segments.proofs.Expanding.{AreReal, real-more, path-steps}
 
 -- the moves of each segment, after those of lower numbers

@@ -1,14 +1,13 @@
 -- Segments in form whose steps fit are a walk from the root.
-use Rattle.std.proofs.Common.{◌≡◌, ◌<◌, ◌≤◌, ◌+◌, ◌⊎◌, ℕ, zero, suc, cond, Bool, true, false, List, [], ◌∷◌, ◌++◌, Some, None, length, slice_get, take, refl, sym, ap, ◌∙◌, subst, append_assoc, inl, inr, arith}
+use Rattle.std.proofs.Common.{◌≡◌, ◌⊎◌, ℕ, zero, suc, cond, true, false, List, [], ◌∷◌, ◌++◌, Some, None, slice_get, take, refl, sym, ap, ◌∙◌, subst, append_assoc, inl, inr, arith}
 use Rattle.std.specs.Prelude.{option_and_then}
 use Rattle.std.specs.List.{All}
 use Rattle.std.proofs.lemmas.List.Elements.{All-head, All-tail}
 use Rattle.ck_base.specs.declared.spans.FnId.{FnId}
 use Rattle.ck_base.specs.declared.states.State.{State}
-use Rattle.ck_graph.specs.declared.entries.Root.{Root}
 use Rattle.ck_graph.specs.Flow.{Flow}
 use Rattle.ck_graph.specs.Faults.{IsSound}
-use Rattle.ck_graph.specs.Walk.{Frame, Configuration, Move, EnterTarget, entered, moved, moved_at, walked, walk}
+use Rattle.ck_graph.specs.Walk.{Frame, Configuration, Move, EnterTarget, entered, moved_at, walked, walk}
 use Rattle.ck_graph.specs.Steps.{first_of, exit_of, MayEnter}
 use Rattle.ck_graph.specs.MatchedPath.{IsMatchedPath, running}
 use Rattle.ck_graph.proofs.MatchedPaths.{walked-append}
@@ -16,9 +15,9 @@ use Rattle.ck_segments.specs.declared.segments.Step.{Step}
 use Rattle.ck_segments.specs.declared.segments.Step.TheVariants.{Edge, Call, Enter}
 use Rattle.ck_segments.specs.Plain.{PlainSegment}
 use Rattle.ck_segments.specs.Expansion.{step_moves, steps_moves, goes_in, expand_from, expand}
-use Rattle.ck_segments.specs.Form.{StaysWithin, IsPathTo, IsLast, GoesInto, AreUnfinished, AreInForm}
-use Rattle.ck_segments.specs.Runs.{Through, StepsRun, RunOn, StartsIn, Fit}
-use Rattle.ck_segments.specs.Laws.{WalksTo, PathsAreWalks, SegmentsLead}
+use Rattle.ck_segments.specs.Form.{StaysWithin, IsPathTo, IsLast, GoesInto, AreUnfinished}
+use Rattle.ck_segments.specs.Runs.{Through, StepsRun, RunOn, StartsIn}
+use Rattle.ck_segments.specs.Laws.{PathsAreWalks, SegmentsLead}
 use Rattle.ck_segments.proofs.Lists.{append-none}
 use Rattle.ck_segments.proofs.Expanding.{AreReal, real-more, path-steps}
 use Rattle.ck_segments.proofs.Finished.{lower_of, IsSomething, goes_in-stays, expand-finished, real-finished}

@@ -2,6 +2,8 @@
 pub mod Expanding
 pub mod Finished
 pub mod Fitting
+-- Steps and moves
+pub mod Moving
 -- Where steps lead from
 pub mod Places
 -- Lists that grow at their end

@@ -1,5 +1,5 @@
 -- A step leads from a point that is there.
-use Rattle.std.proofs.Common.{◌≡◌, ◌<◌, ℕ}
+use Rattle.std.proofs.Common.{◌<◌, ℕ}
 use Rattle.ck_graph.specs.Flow.{Flow, point_count}
 use Rattle.ck_graph.proofs.SoundGraphs.{there-from_edge, there-from_call}
 use Rattle.ck_segments.specs.declared.segments.Step.{Step}

@@ -4,10 +4,10 @@ use Rattle.std.proofs.Common.{◌≡◌, ℕ, List, [], ◌∷◌, Option, Some,
 use Rattle.ck_base.specs.declared.spans.FnId.{FnId}
 use Rattle.ck_base.specs.declared.refusals.Spot.TheVariants.{Nowhere}
 use Rattle.ck_base.specs.declared.ops.Op.{Op}
-use Rattle.ck_base.specs.declared.ops.Op.TheVariants.{Prologue, Epilogue, HandlerReturn, Init, Lock, Unlock}
-use Rattle.ck_base.specs.declared.states.State.TheVariants.{HB, HO, HE, TI, TN}
+use Rattle.ck_base.specs.declared.ops.Op.TheVariants.{Prologue, Epilogue, HandlerReturn}
+use Rattle.ck_base.specs.declared.states.State.TheVariants.{HB}
 use Rattle.ck_base.specs.declared.states.Kind.{Kind}
-use Rattle.ck_base.specs.declared.states.Kind.TheVariants.{P, Sv}
+use Rattle.ck_base.specs.declared.states.Kind.TheVariants.{P}
 use Rattle.ck_graph.specs.declared.points.Edge.{Edge as EdgeOf}
 use Rattle.ck_graph.specs.declared.points.Label.TheVariants as label
 use Rattle.ck_graph.specs.declared.points.ActName.TheVariants as name
@@ -17,7 +17,7 @@ use Rattle.ck_graph.specs.declared.points.FunctionPart.{FunctionPart}
 use Rattle.ck_graph.specs.declared.entries.Entry.TheVariants as entry
 use Rattle.ck_graph.specs.declared.entries.Root.{Root}
 use Rattle.ck_graph.specs.Flow.{Flow, Point, point_at, function_at}
-use Rattle.ck_graph.specs.Walk.{Configuration, Move, TakeEdge, EnterTarget, ReturnToCaller, walk}
+use Rattle.ck_graph.specs.Walk.{Configuration, TakeEdge, EnterTarget, ReturnToCaller, walk}
 use Rattle.ck_graph.specs.Forbidden.{alarm_in}
 use Rattle.ck_segments.specs.declared.segments.Step.{Step}
 use Rattle.ck_segments.specs.declared.segments.Step.TheVariants.{Edge, Call, Enter}

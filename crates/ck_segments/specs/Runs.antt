@@ -1,6 +1,6 @@
 -- When the steps of segments fit the states: each act is allowed in its state, and each call cites a segment that runs
 -- in the call's state.
-use Rattle.std.specs.Prelude.{◌≡◌, ⊤, ℕ, List, [], ◌∷◌, Some, length, slice_get, take}
+use Rattle.std.specs.Prelude.{◌≡◌, ℕ, List, [], ◌∷◌, Some, length, slice_get, take}
 use Rattle.ck_base.specs.declared.spans.FnId.{FnId}
 use Rattle.ck_base.specs.declared.states.State.{State}
 use Rattle.ck_base.specs.declared.states.Outcome.TheVariants.{Next}

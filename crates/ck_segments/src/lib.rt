@@ -14,5 +14,5 @@ mod laws;
 mod segments;
 
 pub use following::follows;
-pub use laws::{paths_are_walks, segments_lead};
+pub use laws::{moves_follow, paths_are_walks, segments_lead};
 pub use segments::{Segment, Segments, Step};
