@@ -416,3 +416,26 @@ comma_in_for = refl
 switch_on_struct : Refused U14
     (("struct s { int a ; } ; int f ( struct s x ) { switch ( @ x ) { default : return 0 ; } }" ∷ []) ∷ [])
 switch_on_struct = refl
+
+-- 6.2.7: a struct without a tag in a tagged one is by its place, which two files don't share
+untagged_inside_of_two_files : Refused U10
+    (("struct s { struct { int a ; } in ; } ; extern struct s x ;" ∷ [])
+    ∷ ("struct @ s { struct { int a ; } in ; } ; struct s x ;" ∷ [])
+    ∷ [])
+untagged_inside_of_two_files = refl
+
+-- 6.7.4: an inline function with external linkage is defined like any other, in one file; a static one in each
+inline_in_two_files : Refused U9
+    (("inline int f ( void ) { return 0 ; }" ∷ []) ∷ ("inline int @ f ( void ) { return 0 ; }" ∷ []) ∷ [])
+inline_in_two_files = refl
+
+static_inline_in_two_files : Accepted
+    (("static inline int f ( void ) { return 0 ; }" ∷ []) ∷ ("static inline int f ( void ) { return 0 ; }" ∷ []) ∷ [])
+static_inline_in_two_files = refl
+
+-- 6.7.8: an array without a size in a block, and one whose initialiser is none
+never_sized : Refused U11 (("int f ( void ) { int @ a [ ] ; return 0 ; }" ∷ []) ∷ [])
+never_sized = refl
+
+never_sized_by : Refused U11 (("int @ a [ ] = 5 ;" ∷ []) ∷ [])
+never_sized_by = refl

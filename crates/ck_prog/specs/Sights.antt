@@ -37,7 +37,7 @@ pub record CallSight : Type 0 where
   pub named : Option Entry
   pub used : StatusUse
 
--- a label of a `switch`: its keyword, whether it is in a `switch`, and the labels before it there
+-- 6.8.4.2: a label of a `switch`: a value, where it is known, or `default`
 pub data LabelOfSwitch : Type 0 where
   CaseLabel : Option ℤ → LabelOfSwitch
   DefaultLabel : LabelOfSwitch
@@ -47,7 +47,7 @@ pub data Sight : Type 0 where
   NameUse : Facts → List ℕ → Option Entry → StatusUse → Sight
   -- a value that is made of operands, or of a type name, of these types
   ValueOf : Facts → List (Option CType) → Sight
-  -- a value of a primary expression
+  -- the value of a name, or of what is in parentheses
   PrimaryValue : Facts → Sight
   CastOf : Facts → Facts → Sight
   CallOf : CallSight → Sight
@@ -70,9 +70,11 @@ pub data Sight : Type 0 where
   TestOf : Facts → Sight
   SwitchOn : Facts → Sight
   CaseValue : Facts → Sight
-  -- labels and jumps
+  -- `case` and `default`, and whether a `switch` is around them; a label of a `switch` beside those before it there
   SwitchLabel : Token → Bool → Sight
   RepeatedLabel : Token → LabelOfSwitch → List LabelOfSwitch → Sight
+  -- `goto`, its label, and the scope of the function's parameters; `break` and `continue`, and whether they lead
+  -- somewhere
   GotoTo : Token → List ℕ → List ℕ → Sight
   JumpTo : Token → Bool → Sight
   Returned : Option CType → Facts → Sight
