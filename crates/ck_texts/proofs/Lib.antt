@@ -1,4 +1,4 @@
--- The theorems: no text has two forms, and segments in form name functions of their graph
+-- The theorems: no text has two forms, and paths meet what a report requires
 pub mod OneText
 pub mod InForm
 -- The places that maps give are those of the definition

@@ -14,7 +14,8 @@ numbered-push text n (y ∷ xs) x =
     let rest : numbered text (n + 1) (xs ++ x ∷ []) ≡ numbered text (n + 1) xs ++ text (n + 1 + length xs) x =
     numbered-push text (n + 1) xs x in
     let number : n + 1 + length xs ≡ n + length (y ∷ xs) = omega arith in
-    ap (λ t. text n y ++ t) rest ∙ (sym (append_assoc (text n y) (numbered text (n + 1) xs) (text (n + 1 + length xs) x))
+    ap (λ t. text n y ++ t) rest
+    ∙ (sym (append_assoc (text n y) (numbered text (n + 1) xs) (text (n + 1 + length xs) x))
     ∙ ap (λ k. (text n y ++ numbered text (n + 1) xs) ++ text k x) number)
 
 -- a loop over things that are numbered from 1, one thing further
@@ -63,7 +64,8 @@ rejected_pieces start s1 s2 s3 number alarms e0 e1 e2 e3 = rw (e3, e2, e1, e0) (
 pub alarm_pieces : (s0 s1 s2 s3 s4 s5 s6 s7 number kind site name : List ℕ)
     → s1 ≡ s0 ++ (codes "alarm " ++ (number ++ codes " ")) → s2 ≡ s1 ++ kind → s3 ≡ s2 ++ codes " " → s4 ≡ s3 ++ site
     → s5 ≡ s4 ++ codes " " → s6 ≡ s5 ++ name → s7 ≡ s6 ++ codes "\n"
-    → s7 ≡ s0 ++ line (codes "alarm " ++ (number ++ (codes " " ++ (kind ++ (codes " " ++ (site ++ (codes " " ++ name)))))))
+    → s7 ≡ s0 ++ line (codes "alarm " ++ (number ++ (codes " " ++ (kind ++ (codes " " ++
+    (site ++ (codes " " ++ name)))))))
 alarm_pieces s0 s1 s2 s3 s4 s5 s6 s7 number kind site name e1 e2 e3 e4 e5 e6 e7 =
     rw (e7, e6, e5, e4, e3, e2, e1) (simp append_assoc)
 

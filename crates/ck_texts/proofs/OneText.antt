@@ -67,18 +67,21 @@ module _ (files : List File) (flow : Flow) (at to : Span → Place) (within : Ar
   same_segment : (names : Names) (count number : ℕ) (segment : PlainSegment)
       → spec.segment_text flow names at count number segment ≡ spec.segment_text flow names to count number segment
   same_segment names count number segment =
-      ap (λ t. spec.heading names number segment.function ++ (t ++ spec.ending (number == count) (goes_in segment.steps)))
+      let end = spec.ending (number == count) (goes_in segment.steps) in
+      ap (λ t. spec.heading names number segment.function ++ (t ++ end))
       (same_steps names (function_at flow segment.function.0).first.0 segment.steps)
 
   same_alarm_line : (names : Names) (number : ℕ) (alarm : AlarmAt)
       → spec.alarm_line flow names at number alarm ≡ spec.alarm_line flow names to number alarm
   same_alarm_line names number alarm = rw (same_site alarm.point.0) refl
 
-numbered_same : {A : Type 0} (one other : ℕ → A → List ℕ) → ((n : ℕ) (x : A) → one n x ≡ other n x) → (n : ℕ) (xs : List A)
+numbered_same : {A : Type 0} (one other : ℕ → A → List ℕ) → ((n : ℕ) (x : A) → one n x ≡ other n x) → (n : ℕ)
+    (xs : List A)
     → numbered one n xs ≡ numbered other n xs
 numbered_same one other same n [] = refl
 numbered_same one other same n (x ∷ xs) =
-    ap (λ t. t ++ numbered one (n + 1) xs) (same n x) ∙ ap (λ t. other n x ++ t) (numbered_same one other same (n + 1) xs)
+    ap (λ t. t ++ numbered one (n + 1) xs) (same n x)
+    ∙ ap (λ t. other n x ++ t) (numbered_same one other same (n + 1) xs)
 
 module _ (files : List File) (flow : Flow) (at to : Span → Place) (within : AreSitesWithin files flow)
     (says : SaysPlaces files at) (says_to : SaysPlaces files to) where

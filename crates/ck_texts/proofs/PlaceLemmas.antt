@@ -1,5 +1,6 @@
 -- The places that maps give are those of the definition.
-use Rattle.std.proofs.Common.{◌≡◌, ℕ, zero, suc, ◌+◌, ◌<◌, ◌≤◌, Bool, true, false, ◌&&◌, ◌⊎◌, inl, inr, List, [], ◌∷◌, length, get_or, slice_index, leb, cond, Some, refl, sym, ap, ◌∙◌, subst, arith}
+use Rattle.std.proofs.Common.{◌≡◌, ℕ, zero, suc, ◌+◌, ◌<◌, ◌≤◌, Bool, true, false, ◌&&◌, ◌⊎◌, inl, inr, List, [], ◌∷◌}
+use Rattle.std.proofs.Common.{length, get_or, slice_index, leb, cond, Some, refl, sym, ap, ◌∙◌, subst, arith}
 use Rattle.std.specs.Prelude.{slice_get}
 use Rattle.std.specs.List.{Contains}
 use Rattle.std.proofs.lemmas.Bool.{cases_Bool}
@@ -15,7 +16,8 @@ use Rattle.ck_lexer.specs.Places.{Place, IsPlace}
 use Rattle.ck_lexer.specs.declared.places.Line.{Line}
 use Rattle.ck_lexer.specs.declared.places.PlaceMap.{PlaceMap}
 use Rattle.ck_lexer.proofs.OnePlace.{one_place}
-use Rattle.ck_texts.specs.Placed.{AreMapsOf, HasPlace, IsMapped, IsSpotOf, IsSpotText, SaysPlaces, nowhere, of_file, at_place}
+use Rattle.ck_texts.specs.Placed.{AreMapsOf, HasPlace, IsMapped, IsSpotOf, IsSpotText, SaysPlaces, nowhere, of_file}
+use Rattle.ck_texts.specs.Placed.{at_place}
 use Rattle.ck_texts.specs.Printing.{first_of_file, later, latest, place_in, place_by, spot_text}
 use Rattle.ck_texts.specs.Views.{File}
 

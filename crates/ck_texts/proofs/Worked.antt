@@ -11,7 +11,9 @@ use Rattle.ck_base.specs.declared.refusals.Spot.TheVariants.{Nowhere, At}
 use Rattle.ck_base.specs.declared.refusals.Unsupported.TheVariants.{U5, U23, U25}
 use Rattle.ck_base.specs.declared.settings_faults.SettingsKind.TheVariants.{Absent, Repeated, NoSuchName}
 use Rattle.ck_base.specs.declared.ops.Op.{Op}
-use Rattle.ck_base.specs.declared.ops.Op.TheVariants.{Init, Lock, Unlock, Prologue, Epilogue, LockIsr, UnlockIsr, Normal, HandlerReturn, GetStatus, RestoreStatus, PairEnter, PairLeft}
+use Rattle.ck_base.specs.declared.ops.Op.TheVariants.{Init, Lock, Unlock, Prologue, Epilogue, LockIsr, UnlockIsr}
+use Rattle.ck_base.specs.declared.ops.Op.TheVariants.{Normal, HandlerReturn, GetStatus, RestoreStatus, PairEnter}
+use Rattle.ck_base.specs.declared.ops.Op.TheVariants.{PairLeft}
 use Rattle.ck_base.specs.declared.states.State.TheVariants.{TI, HB}
 use Rattle.ck_base.specs.declared.states.Kind.{Kind}
 use Rattle.ck_base.specs.declared.states.Kind.TheVariants.{Sv, P}
@@ -55,7 +57,16 @@ abbrev edge : ℕ → Label → Edge
 edge to word = record { to = record { 0 = to }; label = word }
 
 abbrev point : PointKind → ℕ → Spot → List Edge → List FnId → Point
-point kind owner site edges targets = record { kind = kind; function = function owner; site = site; path = []; order = []; side = 0; edges = edges; targets = targets }
+point kind owner site edges targets = record {
+  kind = kind;
+  function = function owner;
+  site = site;
+  path = [];
+  order = [];
+  side = 0;
+  edges = edges;
+  targets = targets;
+}
 
 -- a plain point, an act, a call and an exit of a function
 abbrev goes : ℕ → Spot → ℕ → Point
@@ -115,7 +126,8 @@ double_lock = record {
   functions = ends 0 4 ∷ ends 5 6 ∷ [];
 }
 
-locked_twice : report_text double_lock (main_root 1 ∷ []) (names (codes "main" ∷ codes "[main]" ∷ [])) (place (codes "main.i"))
+locked_twice : report_text double_lock (main_root 1 ∷ []) (names (codes "main" ∷ codes "[main]" ∷ []))
+    (place (codes "main.i"))
     (rejected (path 3 (Sv 4) 0 (part 1 (enter 0 ∷ []) ∷ part 0 (e0 ∷ e0 ∷ e0 ∷ []) ∷ []) ∷ []))
     ≡ text (codes "rtcheck 1" ∷ codes "rejected 1" ∷ codes "alarm 1 SV#4 main.i:6:3 chSysLock" ∷ codes "entry main" ∷
     codes "segment 1 [main]" ∷ codes "  enter main.i:3:5 main" ∷ codes "segment 2 main" ∷
@@ -135,7 +147,8 @@ one_branch = record {
   functions = ends 0 5 ∷ ends 6 7 ∷ [];
 }
 
-past_the_lock : report_text one_branch (main_root 1 ∷ []) (names (codes "main" ∷ codes "[main]" ∷ [])) (place (codes "main.c"))
+past_the_lock : report_text one_branch (main_root 1 ∷ []) (names (codes "main" ∷ codes "[main]" ∷ []))
+    (place (codes "main.c"))
     (rejected (path 4 (Sv 5) 0 (part 1 (enter 0 ∷ []) ∷ part 0 (e0 ∷ e0 ∷ e1 ∷ []) ∷ []) ∷ []))
     ≡ text (codes "rtcheck 1" ∷ codes "rejected 1" ∷ codes "alarm 1 SV#5 main.c:5:3 chSysUnlock" ∷ codes "entry main" ∷
     codes "segment 1 [main]" ∷ codes "  enter main.c:2:5 main" ∷ codes "segment 2 main" ∷
@@ -209,7 +222,8 @@ two_orders = record {
 
 second_order : report_text two_orders (main_root 3 ∷ [])
     (names (codes "f" ∷ codes "g" ∷ codes "main" ∷ codes "[main]" ∷ [])) (place (codes "main.c"))
-    (rejected (path 4 (Sv 5) 0 (part 3 (enter 2 ∷ []) ∷ part 2 (e0 ∷ e0 ∷ e0 ∷ e1 ∷ enter 1 ∷ []) ∷ part 1 (e0 ∷ []) ∷ []) ∷ []))
+    (rejected (path 4 (Sv 5) 0
+    (part 3 (enter 2 ∷ []) ∷ part 2 (e0 ∷ e0 ∷ e0 ∷ e1 ∷ enter 1 ∷ []) ∷ part 1 (e0 ∷ []) ∷ []) ∷ []))
     ≡ text (codes "rtcheck 1" ∷ codes "rejected 1" ∷ codes "alarm 1 SV#5 main.c:2:15 chSysUnlock" ∷
     codes "entry main" ∷ codes "segment 1 [main]" ∷ codes "  enter main.c:3:5 main" ∷ codes "segment 2 main" ∷
     codes "  act main.c:4:3 chSysInit" ∷ codes "  choose main.c:5:10 order 2" ∷ codes "  enter main.c:5:16 g" ∷
@@ -230,8 +244,10 @@ open_pair = record {
   functions = ends 0 7 ∷ ends 8 11 ∷ ends 12 13 ∷ [];
 }
 
-left_open : report_text open_pair (main_root 2 ∷ []) (names (codes "bump" ∷ codes "main" ∷ codes "[main]" ∷ [])) (place (codes "main.c"))
-    (rejected (path 6 (P 8) 0 (part 2 (enter 1 ∷ []) ∷ part 1 (e0 ∷ e0 ∷ enter 0 ∷ []) ∷ part 0 (e0 ∷ e0 ∷ e0 ∷ e0 ∷ e0 ∷ []) ∷ []) ∷ []))
+left_open : report_text open_pair (main_root 2 ∷ []) (names (codes "bump" ∷ codes "main" ∷ codes "[main]" ∷ []))
+    (place (codes "main.c"))
+    (rejected (path 6 (P 8) 0 (part 2 (enter 1 ∷ []) ∷ part 1 (e0 ∷ e0 ∷ enter 0 ∷ []) ∷
+    part 0 (e0 ∷ e0 ∷ e0 ∷ e0 ∷ e0 ∷ []) ∷ []) ∷ []))
     ≡ text (codes "rtcheck 1" ∷ codes "rejected 1" ∷ codes "alarm 1 P#8 main.c:2:6 return" ∷
     codes "entry main" ∷ codes "segment 1 [main]" ∷ codes "  enter main.c:7:5 main" ∷ codes "segment 2 main" ∷
     codes "  act main.c:7:18 chSysInit" ∷ codes "  enter main.c:7:31 bump" ∷ codes "segment 3 bump" ∷

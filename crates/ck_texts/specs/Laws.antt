@@ -7,9 +7,10 @@ use Rattle.ck_graph.specs.declared.entries.Root.{Root}
 use Rattle.ck_graph.specs.Faults.{IsSound}
 use Rattle.ck_graph.specs.Flow.{Flow}
 use Rattle.ck_segments.specs.Form.{AreInForm}
-use Rattle.ck_segments.specs.Plain.{PlainSegment}
-use Rattle.ck_texts.specs.Placed.{IsRefusalText, IsReport, IsSegmentOf, IsWithin}
-use Rattle.ck_texts.specs.Views.{File, Names, Outcome}
+use Rattle.ck_segments.specs.Expansion.{LeadsToAlarm}
+use Rattle.ck_summary.specs.Alarms.{alarm_of}
+use Rattle.ck_texts.specs.Placed.{IsPathOf, IsRefusalText, IsReport, IsWithin}
+use Rattle.ck_texts.specs.Views.{File, Names, Outcome, PathToAlarm}
 
 -- a site begins in one of the files, if it has bytes
 abbrev pub IsSiteWithin : List File → Spot → Type 0
@@ -32,7 +33,8 @@ RefusalsHaveOneText =
     (files : List File) (refusal : Refusal) (text other : List ℕ) → IsRefusalText files refusal text
     → IsRefusalText files refusal other → text ≡ other
 
--- segments in form name functions of their graph alone
-abbrev pub SegmentsNameFunctions : Type 0
-SegmentsNameFunctions =
-    (flow : Flow) (list : List PlainSegment) → IsSound flow → AreInForm flow list → All (IsSegmentOf flow) list
+-- a path that is in form and leads to its alarm meets what a report requires of it
+abbrev pub PathsMeetReports : Type 0
+PathsMeetReports =
+    (flow : Flow) (roots : List Root) (alarm : PathToAlarm) → IsSound flow → AreInForm flow alarm.path.list
+    → LeadsToAlarm flow roots alarm.path (alarm_of alarm.at) → IsPathOf flow roots alarm

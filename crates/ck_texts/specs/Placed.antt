@@ -1,5 +1,5 @@
--- Texts whose places are those of the project's files: the place of a byte is the name, line and column that the lexer's
--- definition gives it, and so is the place of a file's end.
+-- Texts whose places are those of the project's files: the place of a byte is the name, line and column that the
+-- lexer's definition gives it, and so is the place of a file's end.
 use Rattle.std.specs.Prelude.{◌≡◌, ◌≤◌, ◌<◌, ℕ, List, length, All, Some, slice_get, codes}
 use Rattle.ck_base.specs.declared.refusals.Refusal.{Refusal}
 use Rattle.ck_base.specs.declared.refusals.Spot.{Spot}

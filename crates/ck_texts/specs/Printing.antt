@@ -1,6 +1,7 @@
 -- The places that maps give, and what ends a segment, as the code finds them. Private contracts alone speak of these;
 -- proofs/ join them with the definition.
-use Rattle.std.specs.Prelude.{ℕ, Bool, true, false, ◌&&◌, nat_le, if◌then◌else◌, List, [], ◌∷◌, Option, None, Some, slice_get, slice_index_or, codes}
+use Rattle.std.specs.Prelude.{ℕ, Bool, true, false, ◌&&◌, nat_le, if◌then◌else◌, List, [], ◌∷◌, Option, None, Some}
+use Rattle.std.specs.Prelude.{slice_get, slice_index_or, codes}
 use Rattle.ck_base.specs.declared.refusals.Spot.{Spot}
 use Rattle.ck_base.specs.declared.refusals.Spot.TheVariants as spot
 use Rattle.ck_base.specs.declared.spans.Span.{Span}

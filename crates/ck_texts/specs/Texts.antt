@@ -3,7 +3,9 @@ use Rattle.std.specs.Prelude.{ℕ, List, ◌++◌, codes}
 use Rattle.std.specs.Fmt.{decimal}
 use Rattle.ck_base.specs.declared.refusals.Unsupported.{Unsupported}
 use Rattle.ck_base.specs.declared.settings_faults.SettingsKind.{SettingsKind}
-use Rattle.ck_base.specs.declared.settings_faults.SettingsKind.TheVariants.{Absent, TooLong, NotToml, Missing, Unknown, WrongType, OutOfRange, Repeated, NoSuchName}
+use Rattle.ck_base.specs.declared.settings_faults.SettingsKind.TheVariants.{Absent, TooLong, NotToml, Missing}
+use Rattle.ck_base.specs.declared.settings_faults.SettingsKind.TheVariants.{Unknown, WrongType, OutOfRange, Repeated}
+use Rattle.ck_base.specs.declared.settings_faults.SettingsKind.TheVariants.{NoSuchName}
 use Rattle.ck_base.specs.Refusals.{refusal_number, refusal_words}
 use Rattle.ck_texts.specs.Lines.{line, first_line}
 

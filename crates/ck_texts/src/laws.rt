@@ -1,5 +1,5 @@
 //! Laws about the definitions, each the contract of a function that does nothing.
-ghost use Rattle.ck_texts.specs.Laws.{RefusalsHaveOneText, ReportsHaveOneText, SegmentsNameFunctions};
+ghost use Rattle.ck_texts.specs.Laws.{PathsMeetReports, RefusalsHaveOneText, ReportsHaveOneText};
 
 /// Where each site of a graph begins in one of the files, a verdict has one report.
 pub fn one_report()
@@ -11,7 +11,7 @@ pub fn one_refusal()
     ensures { RefusalsHaveOneText }
 {}
 
-/// Segments in form name functions of their graph alone, as `report_text` requires.
-pub fn segments_name_functions()
-    ensures { SegmentsNameFunctions }
+/// A path that is in form and leads to its alarm meets what `report_text` requires of it.
+pub fn paths_meet_reports()
+    ensures { PathsMeetReports }
 {}

@@ -18,7 +18,7 @@ mod steps;
 mod verdicts;
 mod words;
 
-pub use laws::{one_refusal, one_report, segments_name_functions};
+pub use laws::{one_refusal, one_report, paths_meet_reports};
 pub use names::{FunctionName, NameBook};
 pub use refusing::refusal_text;
 pub use reporting::report_text;

@@ -1,0 +1,2 @@
+-- Projects by hand that meet what a report requires
+pub mod FitLemmas

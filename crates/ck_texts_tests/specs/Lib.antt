@@ -1,0 +1,2 @@
+-- Private
+pub mod Fitting
