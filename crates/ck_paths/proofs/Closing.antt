@@ -32,6 +32,20 @@ below-or old new m n y place kept below at is = elim (cases_lt m n) [
       inr (number, same_Some place y (sym (kept n place at) ∙ (ap (slice_get new) (sym number) ∙ is)))
 ]
 
+-- a call returns from the exit that was looked at last
+back-last : (flow : Flow) (old new : List Place) (m : ℕ) (place calls ends : Place) (target : ℕ) → IsSound flow →
+    HasPassed flow old new place → IsAt old m calls → place ≡ ends → MayEnter flow calls.point.0 target →
+    ends.point.0 ≡ exit_of flow target → ends.from ≡ calls.to → HasReturn flow new calls ends.to
+back-last flow old new m place calls ends target sound passed calls_at same may exit from =
+    let function = sound.functions target (target-below flow sound calls.point.0 target may) in
+    let place_exit : place.point.0 ≡ exit_of flow target = ap (λ (z : Place). z.point.0) same ∙ exit in
+    let own : function_of flow place ≡ target = ap (λ (p : ℕ). (point_at flow p).function.0) place_exit ∙
+    function.exit.own in
+    let kind : kind_at flow place.point.0 ≡ Exit = ap (kind_at flow) place_exit ∙ function.ends in
+    subst (λ (z : Place). HasReturn flow new calls z.to) same
+    (passed.back kind calls.point.0 (subst (MayEnter flow calls.point.0) (sym own) may) m calls calls_at refl
+    (omega arith) (ap (λ (z : Place). z.from) same ∙ from))
+
 pub closed-more : (flow : Flow) (old new : List Place) (n : ℕ) (place : Place) → IsSound flow → Extends old new →
     IsAt old n place → HasPassed flow old new place → IsClosedBelow flow old n → IsClosedBelow flow new (n + 1)
 closed-more flow old new n place sound kept at passed closed = record {
@@ -62,15 +76,7 @@ closed-more flow old new n place sound kept at passed closed = record {
         | inl b ↦ elim (below-or old new x n ends place kept x_below at ends_is) [
           | inl c ↦ return-kept flow old new calls ends.to kept (closed.back m x calls ends b.0 c.0 b.1 c.1 target may
               exit from)
-          | inr f ↦
-              let function = sound.functions target (target-below flow sound calls.point.0 target may) in
-              let place_exit : place.point.0 ≡ exit_of flow target = ap (λ (z : Place). z.point.0) f.1 ∙ exit in
-              let own : function_of flow place ≡ target = ap (λ (p : ℕ). (point_at flow p).function.0) place_exit ∙
-              function.exit.own in
-              let kind : kind_at flow place.point.0 ≡ Exit = ap (kind_at flow) place_exit ∙ function.ends in
-              subst (λ (z : Place). HasReturn flow new calls z.to) f.1
-              (passed.back kind calls.point.0 (subst (MayEnter flow calls.point.0) (sym own) may) m calls b.1 refl
-              (omega arith) (ap (λ (z : Place). z.from) f.1 ∙ from))
+          | inr f ↦ back-last flow old new m place calls ends target sound passed b.1 f.1 may exit from
         ]
       ];
 }

@@ -16,7 +16,7 @@ use Rattle.ck_segments.specs.declared.segments.Step.{Step}
 use Rattle.ck_segments.specs.declared.segments.Step.TheVariants.{Call, Enter}
 use Rattle.ck_segments.specs.Plain.{PlainSegment}
 use Rattle.ck_segments.specs.Follows.{StepsLead}
-use Rattle.ck_segments.specs.Form.{IsFinished, AreUnfinished, IsCited, AreInForm}
+use Rattle.ck_segments.specs.Form.{GoesInto, IsFinished, AreUnfinished, IsCited, AreInForm}
 use Rattle.ck_segments.specs.Runs.{Through, StepsRun, RunsThrough, RunOn, StartsIn, Fit}
 use Rattle.ck_paths.specs.declared.found.Place.{Place}
 use Rattle.ck_paths.specs.declared.found.Reason.TheVariants.{AtRoot}
@@ -24,7 +24,7 @@ use Rattle.ck_paths.specs.Found.{IsAt}
 use Rattle.ck_paths.specs.Justified.{AreJustified, StartsAt, function_of}
 use Rattle.ck_paths.specs.Citing.{Cites, AreAscending, AreExitsFor}
 use Rattle.ck_paths.specs.Search.{IsReady}
-use Rattle.ck_paths.specs.Tracing.{no_place, own_function, does_at, does_of, HasCallTo, IsSegmentTo, AreToExits, AreOpen}
+use Rattle.ck_paths.specs.Tracing.{IsEnteredFrom, IsSegmentInto, no_place, own_function, does_at, does_of, HasCallTo, IsSegmentTo, AreToExits, AreOpen}
 use Rattle.ck_paths.proofs.Lists.{take-get, get-take}
 use Rattle.ck_paths.proofs.Citations.{one, cites-root, cites-caller}
 use Rattle.ck_paths.proofs.Traces.{does-there}
@@ -238,6 +238,33 @@ module _ (flow : Flow) (sound : IsSound flow) (roots : List Root) (places : List
         start callee at from.at own in
         (callee.from, runs.runs, runs-on (next ∷ rest) e callee from.at going_on)
 
+    -- a segment before the last goes into the next one's function
+    pub goes-into : (segment next : PlainSegment) (rest : List PlainSegment) (entry e c : ℕ) (start : Place) →
+        IsAt places entry start → (from : IsEnteredFrom places e c) →
+        IsSegmentInto flow places exits entry c next.function segment →
+        AreOpen flow places exits e (next ∷ rest) n → GoesInto flow finished segment next
+    goes-into segment next rest entry e c start at from into going_on =
+        let callee = from.place in
+        let own : next.function ≡ own_function flow callee = function-of (next ∷ rest) e callee from.at going_on in
+        let runs = runs-into flow sound places last ready roots all exits entry c e next.function segment into from
+        start callee at from.at own in
+        let through : List Through = does_of flow places exits in
+        let first : ℕ = first_of flow segment.function.0 in
+        record {
+          path = record {
+            function = runs.there;
+            steps =
+                lead-from_runs flow through segment.steps first start.from (first_of flow next.function.0) callee.from
+                runs.runs;
+          };
+          before = runs.before;
+          stays =
+              stays-from_runs flow through finished matched runs.before first start.from runs.caller.point.0
+              runs.caller.to
+              runs.inside runs.inner;
+          ends = runs.ends;
+        }
+
     -- the unfinished segments are in form
     pub going-on : (segments : List PlainSegment) (entry : ℕ) (start : Place) → IsAt places entry start →
         AreOpen flow places exits entry segments n → AreUnfinished flow finished segments
@@ -257,29 +284,10 @@ module _ (flow : Flow) (sound : IsSound flow) (roots : List Root) (places : List
               runs.inside
               runs.runs;
         }
-    going-on (segment ∷ (next ∷ rest)) entry start at (e, c, from, into, going_on) =
-        let callee = from.place in
-        let own : next.function ≡ own_function flow callee = function-of (next ∷ rest) e callee from.at going_on in
-        let runs = runs-into flow sound places last ready roots all exits entry c e next.function segment into from
-        start callee at from.at own in
-        let through : List Through = does_of flow places exits in
-        let first : ℕ = first_of flow segment.function.0 in (
-          record {
-            path = record {
-              function = runs.there;
-              steps =
-                  lead-from_runs flow through segment.steps first start.from (first_of flow next.function.0) callee.from
-                  runs.runs;
-            };
-            before = runs.before;
-            stays =
-                stays-from_runs flow through finished matched runs.before first start.from runs.caller.point.0
-                runs.caller.to
-                runs.inside runs.inner;
-            ends = runs.ends;
-          },
-          going-on (next ∷ rest) e callee from.at going_on,
-        )
+    going-on (segment ∷ (next ∷ rest)) entry start at (e, c, from, into, going_on) = (
+      goes-into segment next rest entry e c start at from into going_on,
+      going-on (next ∷ rest) e from.place from.at going_on,
+    )
 
     -- each finished segment is cited
     pub cited-finished : (unfinished : List PlainSegment) (entry k : ℕ) (start : Place) → IsAt places entry start →
