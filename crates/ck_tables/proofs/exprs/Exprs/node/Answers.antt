@@ -1,0 +1,15 @@
+use Rattle.std.proofs.Common.{◌<◌, length, subst, sym}
+use Rattle.ck_tables.specs.ExprTable.{IsNode}
+use Rattle.ck_tables.proofs.ExprLemmas.{is_node_at}
+use Rattle.ck_tables.proofs.exprs.Exprs.node.Goals as goal
+
+pub returns : goal.returns
+returns c =
+    let ns = c.self.inside.nodes.items in
+    let i = c.args.id.0 in
+    let known : i < length ns = subst (λ ms. i < length ms) (sym c.self.view_is) c.requires in
+    let at = is_node_at ns i c.index.result.now c.self.invariant known in
+    record {
+      meaning =
+          subst (λ ms. IsNode ms i c.index.result.now) c.self.view_is (subst (IsNode ns i) (sym c.index.ensures) at);
+    }

@@ -1,0 +1,14 @@
+-- What is promised: what the numbers of tables stand for
+pub mod Program
+pub mod Laws
+pub mod Targets
+pub mod NameList
+-- From memory to plain values
+pub mod Tables
+pub mod Rows
+pub mod Readings
+pub mod Entries
+pub mod ExprTable
+pub mod InitTable
+pub mod StmtTable
+pub mod ExprFacts
