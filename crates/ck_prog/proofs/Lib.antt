@@ -37,3 +37,6 @@ mod WorkedCorners
 mod WorkedFirmware
 mod WorkedCalls
 mod WorkedInitialisers
+mod WorkedStructs
+mod WorkedSlots
+mod WorkedTables

@@ -11,12 +11,13 @@ use Rattle.ck_kernel.specs.declared.entries.EntrySink.TheVariants.{Absent, Threa
 use Rattle.ck_types.specs.Types.{StructIdentity, CType, Parameters, Void, Pointer, Array, Struct, Function}
 use Rattle.ck_types.specs.Types.{NoParameters}
 use Rattle.ck_types.specs.Types.{Parameter, ByTag, ByTypedef, compatible, same_qualifiers, same_struct, same_truth}
-use Rattle.ck_prog.specs.CurrentObjects.{members_in}
+use Rattle.ck_prog.specs.CurrentObjects.{is_tag_of, members_in}
 use Rattle.ck_prog.specs.Declarations.{Entry, Meaning, Variable, FunctionNamed, TypeNamed, Enumerator, EnumTag}
 use Rattle.ck_prog.specs.Declarations.{StructTag}
-use Rattle.ck_prog.specs.Declarations.{Member, Completed, Label, Place, is_ordinary, is_tag, latest}
+use Rattle.ck_prog.specs.Declarations.{Member, Completed, Label, Place, is_ordinary, is_tag}
 use Rattle.ck_prog.specs.Linking.{is_linked, is_external, linkage_of, are_one, type_of, joined_over}
-use Rattle.ck_prog.specs.Projects.{Told, beside, of_one_function, defines, is_tentative, may_define, kernel_call}
+use Rattle.ck_prog.specs.Projects.{Told, same_token, beside, of_one_function, defines, is_tentative, may_define}
+use Rattle.ck_prog.specs.Projects.{kernel_call}
 use Rattle.ck_prog.specs.Sizes.{is_complete, is_member}
 use Rattle.ck_prog.specs.TypeClasses.{Qualified, plain, is_integer}
 use Rattle.ck_prog.specs.declared.names.Defining.TheVariants.{Tentative}
@@ -69,13 +70,17 @@ abbrev pub is_enum_tag : Meaning → Bool
 is_enum_tag EnumTag = true
 is_enum_tag _ = false
 
-abbrev pub body_twice : Entry → Meaning → List Entry → Bool
-body_twice e (Completed s l c) before =
-    is_some (beside e (λ d. d.file == e.file && completes_struct s d.meaning) before)
-body_twice e EnumTag before = is_some (beside e (λ d. is_tag d.meaning && in_one_scope e d) before)
-body_twice e (StructTag s) before =
+-- a struct's tag that has a body there, which completes it, maybe later
+abbrev pub begins_body : Told → StructIdentity → Entry → Bool
+begins_body k s e =
+    is_tag_of s e.meaning && list_any (λ d. same_token d.at e.at && completes_struct s d.meaning) k.project.all
+
+abbrev pub body_twice : Told → Entry → Meaning → List Entry → Bool
+body_twice k e EnumTag before = is_some (beside e (λ d. is_tag d.meaning && in_one_scope e d) before)
+body_twice k e (StructTag s) before =
     passes (λ d. is_enum_tag d.meaning) (beside e (λ d. is_tag d.meaning && in_one_scope e d) before)
-body_twice e _ before = false
+    || is_some (beside e (λ d. d.file == e.file && begins_body k s d) before)
+body_twice k e _ before = false
 
 -- 6.8.1: label names are unique in a function
 abbrev pub is_label : Meaning → Bool
@@ -92,7 +97,7 @@ is_twice k e before =
     declared_twice e before
     || defined_twice k e before
     || member_twice e e.meaning before
-    || body_twice e e.meaning before
+    || body_twice k e e.meaning before
     || label_twice e before
 
 -- U10: types differ --------------------------------------------------------------------------------------------------
@@ -171,14 +176,10 @@ abbrev pub is_of_type : (CType → Bool) → Option Qualified → Bool
 is_of_type test None = true
 is_of_type test (Some t) = test t.type
 
--- it is named by this text as its tag, or as its first typedef name
+-- it is named by this text as its tag
 abbrev pub is_tagged : StructIdentity → List ℕ → Bool
 is_tagged (ByTag tag) name = bytes_eq tag name
 is_tagged _ name = false
-
-abbrev pub is_struct_named : CType → List ℕ → Bool
-is_struct_named (Struct (ByTypedef first)) name = bytes_eq first name
-is_struct_named _ name = false
 
 -- 6.2.7: those of two files have the same members in order, with compatible types
 abbrev pub member_type : Meaning → Option Qualified
@@ -191,14 +192,16 @@ same_members (e ∷ es) (d ∷ ds) =
     bytes_eq e.name d.name && are_alike_qualified (member_type e.meaning) (member_type d.meaning) && same_members es ds
 same_members _ _ = false
 
--- beside the latest of the files before that know the struct's members
-abbrev pub differ_from : ℕ → StructIdentity → List Entry → Option Entry → Bool
-differ_from file s before None = false
-differ_from file s before (Some d) = not (same_members (members_in file s before) (members_in d.file s before))
+abbrev pub is_known_in : ℕ → StructIdentity → List Entry → Bool
+is_known_in file s before = list_any (λ d. d.file == file && completes_struct s d.meaning) before
 
+-- beside each of the files before that know the struct's members, since compatibility isn't transitive
 abbrev pub has_other_members : ℕ → StructIdentity → List Entry → Bool
 has_other_members file s before =
-    differ_from file s before (latest (λ d. not (d.file == file) && completes_struct s d.meaning) before)
+    list_any (λ d. not (d.file == file)
+    && completes_struct s d.meaning
+    && not (same_members (members_in file s before) (members_in d.file s before)))
+    before
 
 -- the members of a thread's descriptor that a create call reads
 abbrev pub has_member : List ℕ → (CType → Bool) → List Entry → Bool
@@ -210,13 +213,13 @@ is_no_descriptor members =
     || not (has_member (codes "arg") (compatible (Pointer plain Void)) members)
     || not (has_member (codes "prio") is_integer members)
 
--- a struct that a tag, or else its first typedef name, names
+-- a struct that a tag, or else its first typedef name, names, whatever is derived from it there
 abbrev pub is_other_struct : Entry → Meaning → List Entry → Bool
 is_other_struct e (Completed s l c) before =
     (is_tagged s e.name && has_other_members e.file s before)
     || (same_struct s descriptor && is_no_descriptor (members_in e.file s before))
-is_other_struct e (TypeNamed (Some t)) before =
-    is_struct_named t.type e.name && has_other_members e.file (ByTypedef e.name) before
+is_other_struct e (TypeNamed t) before =
+    is_known_in e.file (ByTypedef e.name) before && has_other_members e.file (ByTypedef e.name) before
 is_other_struct e _ before = false
 
 abbrev pub is_different : Entry → List Entry → Bool

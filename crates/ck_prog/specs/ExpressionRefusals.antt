@@ -65,7 +65,8 @@ abbrev pub is_function_table : CType → Bool
 is_function_table (Array q t n) = holds_function_pointers t
 is_function_table _ = false
 
--- an array of function pointers is so only where it isn't under an index, in `sizeof` or an initialiser
+-- an array of function pointers is so only where it isn't under an index or in `sizeof`; in its own initialiser it
+-- isn't an expression
 abbrev pub is_too_deep : Bool → Option CType → Bool
 is_too_deep whole None = false
 is_too_deep whole (Some t) = points_to_function_pointer t || (is_function_table t && not whole)

@@ -1,7 +1,7 @@
 -- Slots: the places that hold function pointers. There is one for each variable, each member of a struct, each
 -- parameter of a function with a body and the result of each such function whose type is a function pointer or an
 -- array of function pointers; an array has one.
-use Rattle.std.specs.Prelude.{ℕ, Bool, false, ◌&&◌, ◌||◌, ◌==◌, nat_lt, List, [], ◌∷◌, count_by}
+use Rattle.std.specs.Prelude.{ℕ, Bool, true, false, ◌&&◌, ◌||◌, ◌==◌, nat_lt, List, [], ◌∷◌, count_by}
 use Rattle.std.specs.Prelude.{Option, Some, None, if◌then◌else◌}
 use Rattle.std.specs.List.{list_any}
 use Rattle.std.specs.Option.{is_some}
@@ -94,9 +94,22 @@ abbrev pub slot_at : Option SlotOf → Option Entry → Option Slot
 slot_at (Some of) (Some e) = Some (record { of = of; at = e.at })
 slot_at _ _ = None
 
--- the slot of a variable or of a function's result, where `all` are the declarations of the project
-abbrev pub slot_of_name : List Entry → Entry → Option Slot
-slot_of_name all e = slot_at (slot_of e.meaning) (earliest (λ d. are_one e d || same_token e.at d.at) all)
+-- the slot of a variable, where `all` are the declarations of the project
+abbrev pub slot_of_variable : List Entry → Entry → Option Slot
+slot_of_variable all e = slot_at (slot_of e.meaning) (earliest (λ d. are_one e d || same_token e.at d.at) all)
+
+abbrev pub is_of_result : Option SlotOf → Bool
+is_of_result (Some OfResult) = true
+is_of_result _ = false
+
+-- the slot of a function's result is that of its definition, whichever declaration of it is in sight
+abbrev pub slot_of_result : List Entry → Entry → Option Slot
+slot_of_result all e =
+    slot_at (Some OfResult) (earliest (λ d. are_one e d && is_of_result (slot_of d.meaning)) all)
+
+abbrev pub slot_of_name : List Entry → Entry → Meaning → Option Slot
+slot_of_name all e (FunctionNamed t l d) = slot_of_result all e
+slot_of_name all e _ = slot_of_variable all e
 
 -- the slot of a member
 abbrev pub slot_of_member : List Entry → StructIdentity → List ℕ → Option Slot

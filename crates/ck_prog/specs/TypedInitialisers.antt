@@ -15,7 +15,7 @@ use Rattle.ck_prog.specs.TypedBodies.{Braces, NoInitialisers, Initialiser, NoDes
 use Rattle.ck_prog.specs.TypedExpressions.{typed_expression}
 use Rattle.ck_prog.specs.TypedTrees.{Typed, facts}
 use Rattle.ck_prog.specs.Typing.{sense, after}
-use Rattle.ck_prog.specs.declared.operators.Role.TheVariants.{Whole, Value as AsValue}
+use Rattle.ck_prog.specs.declared.operators.Role.TheVariants.{Value as AsValue}
 
 -- the place after ----------------------------------------------------------------------------------------------------
 
@@ -97,7 +97,7 @@ abbrev mutual
   -- for an object, or for no object, of static storage duration or not
   pub typed_initialiser : Place → Bool → Option Object → Init → TypedInitialiser
   typed_initialiser p static o (tree.Value e) =
-      let x = typed_expression p Whole e in Value (facts_for static o (facts x).first) x
+      let x = typed_expression p AsValue e in Value (facts_for static o (facts x).first) x
   typed_initialiser p static o (tree.Braced opening is closing) =
       Braces (facts_for static o opening) (typed_initialisers p static o (opened_by (is_only_string is) o) is)
 
