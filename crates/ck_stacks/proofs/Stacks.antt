@@ -1,5 +1,6 @@
 -- Bare stacks meet the laws that the world asks of the C side, and so the two laws of this crate hold.
-use Rattle.std.proofs.Common.{◌≡◌, ℕ, zero, suc, Bool, true, false, List, [], ◌∷◌, Option, Some, None, slice_get, refl, sym, ap, ◌∙◌, subst, subst₂, arith}
+use Rattle.std.proofs.Common.{◌≡◌, ℕ, zero, suc, Bool, true, false, List, [], ◌∷◌, Option, Some, None, slice_get, refl}
+use Rattle.std.proofs.Common.{sym, ap, ◌∙◌, subst, subst₂, arith}
 use Rattle.std.specs.Option.{unwrap_or}
 use Rattle.std.specs.Prelude.{option_map}
 use Rattle.std.specs.List.{Contains}
@@ -26,9 +27,13 @@ use Rattle.ck_sound.specs.Sound.{IsSource, LockOf, IsRestored, RestoredBy}
 use Rattle.ck_sound.specs.SystemStates.{IsAllowed, IsNext, after_outcome, entry_state}
 use Rattle.ck_sound.specs.World.{kept_by}
 use Rattle.ck_sound.proofs.Worlds.{first-sound, after-sound, sound-no_bad_halt}
-use Rattle.ck_stacks.specs.BareStacks.{Stack, NoMemory, stack_of, start_of, place_by, place_of, along, moved_of, finished_of, is_thread_entry, creates_by, creates, any_request, restores, asked_at, Numbers, is_handler_entry, is_fast_root, source_of, handler_by, handler_of, bare_stacks}
+use Rattle.ck_stacks.specs.BareStacks.{Stack, NoMemory, stack_of, start_of, place_by, place_of, along, moved_of}
+use Rattle.ck_stacks.specs.BareStacks.{finished_of, is_thread_entry, creates_by, creates, any_request, restores}
+use Rattle.ck_stacks.specs.BareStacks.{asked_at, Numbers, is_handler_entry, is_fast_root, source_of, handler_by}
+use Rattle.ck_stacks.specs.BareStacks.{handler_of, bare_stacks}
 use Rattle.ck_stacks.specs.Projects.{IsProject}
-use Rattle.ck_stacks.specs.Promise.{KeepsStatus, Covered, Within, Covers, start_world, world_after, NoBadHalt, StaysSound}
+use Rattle.ck_stacks.specs.Promise.{KeepsStatus, Covered, Within, Covers, start_world, world_after, NoBadHalt}
+use Rattle.ck_stacks.specs.Promise.{StaysSound}
 use Rattle.ck_stacks.proofs.Statuses.{status_kept, kept-is, keeps-status}
 use Rattle.ck_stacks.proofs.Walks.{From, starts, covered-moves, covered-acts, allowed-at}
 

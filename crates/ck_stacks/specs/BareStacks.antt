@@ -1,7 +1,8 @@
 -- Bare stacks, the widest C side that there is. A context is its root, the points of its frames and the status of its
 -- last chSysGetStatusAndLockX; there is no data. The choices of an event say which of the moves of a walk is made, and
 -- what an act asks of the kernel, whatever the call is: nothing, a thread of any root with any priority, or a priority.
-use Rattle.std.specs.Prelude.{ℕ, zero, suc, Bool, true, false, if◌then◌else◌, nat_lt, List, [], ◌∷◌, map, Option, Some, None, option_map, slice_get}
+use Rattle.std.specs.Prelude.{ℕ, zero, suc, Bool, true, false, if◌then◌else◌, nat_lt, List, [], ◌∷◌, map, Option, Some}
+use Rattle.std.specs.Prelude.{None, option_map, slice_get}
 use Rattle.std.specs.Option.{unwrap_or}
 use Rattle.ck_base.specs.declared.ops.Op.TheVariants.{RestoreStatus}
 use Rattle.ck_graph.specs.declared.points.Edge.{Edge}
