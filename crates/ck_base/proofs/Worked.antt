@@ -1,8 +1,13 @@
--- Entries of the state table, as docs/TI, TN, OX, TS, TD, HO, TL, XL, HB, NP, HL, ON, NL, TP, FF, HE.md has them, and the other definitions at work.
+-- Entries of the state table, as docs/TI, TN, OX, TS, TD, HO, TL, XL, HB, NP, HL, ON, NL, TP, FF, HE.md has them, and
+-- the other definitions at work.
 use Rattle.std.proofs.Common.{◌≡◌, true, false, pos, Some, None, refl, [], ◌∷◌}
 use Rattle.std.specs.Prelude.{codes}
-use Rattle.ck_base.specs.declared.ops.Op.TheVariants.{Init, Disable, Suspend, Enable, Lock, Unlock, LockIsr, UnlockIsr, Prologue, Epilogue, IQuiet, IWakes, SPlain, SWakes, SSettles, Normal, ExitNormal, ExitS, Free, Halt, HandlerReturn, GetStatus, RestoreStatus, PairEnter, PairLeft}
-use Rattle.ck_base.specs.declared.states.State.TheVariants.{TI, TN, OX, TS, TD, HO, TL, XL, HB, NP, HL, ON, NL, TP, FF, HE}
+use Rattle.ck_base.specs.declared.ops.Op.TheVariants.{Init, Disable, Suspend, Enable, Lock, Unlock, LockIsr, UnlockIsr}
+use Rattle.ck_base.specs.declared.ops.Op.TheVariants.{Prologue, Epilogue, IQuiet, IWakes, SPlain, SWakes, SSettles}
+use Rattle.ck_base.specs.declared.ops.Op.TheVariants.{Normal, ExitNormal, ExitS, Free, Halt, HandlerReturn, GetStatus}
+use Rattle.ck_base.specs.declared.ops.Op.TheVariants.{RestoreStatus, PairEnter, PairLeft}
+use Rattle.ck_base.specs.declared.states.State.TheVariants.{TI, TN, OX, TS, TD, HO, TL, XL, HB, NP, HL, ON, NL, TP, FF}
+use Rattle.ck_base.specs.declared.states.State.TheVariants.{HE}
 use Rattle.ck_base.specs.declared.states.Kind.TheVariants.{Sv, Order, P}
 use Rattle.ck_base.specs.declared.states.Outcome.TheVariants.{Next, Alarm, End}
 use Rattle.ck_base.specs.declared.tokens.TokenKind.TheVariants.{Word}

@@ -2,9 +2,13 @@
 -- docs/STATES.md, "The state table", has the same rows in the same order. It looks at one context alone.
 use Rattle.std.specs.Prelude.{Bool, true, false, ℕ, List, [], ◌∷◌, Option, Some, None, ◌==◌, if◌then◌else◌}
 use Rattle.ck_base.specs.declared.ops.Op.{Op}
-use Rattle.ck_base.specs.declared.ops.Op.TheVariants.{Init, Halt, Disable, Suspend, Enable, Lock, Unlock, LockIsr, UnlockIsr, Prologue, Epilogue, IQuiet, IWakes, SPlain, SWakes, SSettles, Normal, ExitNormal, ExitS, Free, Neutral, HandlerReturn, GetStatus, RestoreStatus, PairEnter, PairLeft}
+use Rattle.ck_base.specs.declared.ops.Op.TheVariants.{Init, Halt, Disable, Suspend, Enable, Lock, Unlock, LockIsr}
+use Rattle.ck_base.specs.declared.ops.Op.TheVariants.{UnlockIsr, Prologue, Epilogue, IQuiet, IWakes, SPlain, SWakes}
+use Rattle.ck_base.specs.declared.ops.Op.TheVariants.{SSettles, Normal, ExitNormal, ExitS, Free, Neutral, HandlerReturn}
+use Rattle.ck_base.specs.declared.ops.Op.TheVariants.{GetStatus, RestoreStatus, PairEnter, PairLeft}
 use Rattle.ck_base.specs.declared.states.State.{State}
-use Rattle.ck_base.specs.declared.states.State.TheVariants.{TI, TN, TS, TD, TL, TP, HB, HO, HL, HE, FF, XL, NL, NP, OX, ON}
+use Rattle.ck_base.specs.declared.states.State.TheVariants.{TI, TN, TS, TD, TL, TP, HB, HO, HL, HE, FF, XL, NL, NP, OX}
+use Rattle.ck_base.specs.declared.states.State.TheVariants.{ON}
 use Rattle.ck_base.specs.declared.states.Kind.{Kind}
 use Rattle.ck_base.specs.declared.states.Kind.TheVariants.{Sv, Order, P}
 use Rattle.ck_base.specs.declared.states.Outcome.{Outcome}

@@ -1,4 +1,5 @@
--- Integer constants (C99 6.4.4.1), by their bytes: a prefix that says the base, digits of it, and a suffix. The value is
+-- Integer constants (C99 6.4.4.1), by their bytes: a prefix that says the base, digits of it, and a suffix. The value
+-- is
 -- the sum of the digits, each times the power of the base that belongs to its place.
 use Rattle.std.specs.Prelude.{ℕ, ◌+◌, ◌*◌, ◌^◌, Bool, ◌||◌, ◌&&◌, not, ◌==◌, nat_lt, List, [], ◌∷◌, length, take, drop}
 use Rattle.std.specs.Prelude.{codes, slice_index, if◌then◌else◌}

@@ -9,7 +9,8 @@ use std::test::Fail;
 
 /// A folder whose one file `a` has the text `some bytes`, and whose call of this number fails.
 fn folder(alloc: Global, fails: u64) -> Result<MemoryFolder, AllocError>
-    ensures { IfOk result (λ folder. folder_files folder ≡ record { name = codes "a"; bytes = codes "some bytes" } ∷ []) }
+    ensures { IfOk result (λ folder.
+        folder_files folder ≡ record { name = codes "a"; bytes = codes "some bytes" } ∷ []) }
 {
     let mut files = Vec::new(alloc);
     files.push((

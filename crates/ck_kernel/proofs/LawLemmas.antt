@@ -9,9 +9,13 @@ use Rattle.std.proofs.lemmas.List.Elements.{All-from_get_or}
 use Rattle.std.proofs.lemmas.Option.{slice_get-get_or}
 use Rattle.std.proofs.lemmas.Slice.Eq.{bytes_eq-Decides}
 use Rattle.ck_base.specs.declared.ops.Op.{Op}
-use Rattle.ck_base.specs.declared.ops.Op.TheVariants.{Init, Halt, Disable, Suspend, Enable, Lock, Unlock, LockIsr, UnlockIsr, Prologue, Epilogue, IQuiet, IWakes, SPlain, SWakes, SSettles, Normal, ExitNormal, ExitS, Free, GetStatus, RestoreStatus}
+use Rattle.ck_base.specs.declared.ops.Op.TheVariants.{Init, Halt, Disable, Suspend, Enable, Lock, Unlock, LockIsr}
+use Rattle.ck_base.specs.declared.ops.Op.TheVariants.{UnlockIsr, Prologue, Epilogue, IQuiet, IWakes, SPlain, SWakes}
+use Rattle.ck_base.specs.declared.ops.Op.TheVariants.{SSettles, Normal, ExitNormal, ExitS, Free, GetStatus}
+use Rattle.ck_base.specs.declared.ops.Op.TheVariants.{RestoreStatus}
 use Rattle.ck_kernel.specs.KernelTable.{kernel_table, row_numbered}
-use Rattle.ck_kernel.specs.Laws.{NamesDiffer, RowsHaveTheirNames, NamesHaveTheirRows, OthersHaveNone, OpsHaveCalls, EntriesAreParameters, is_of_calls, is_parameter}
+use Rattle.ck_kernel.specs.Laws.{NamesDiffer, RowsHaveTheirNames, NamesHaveTheirRows, OthersHaveNone, OpsHaveCalls}
+use Rattle.ck_kernel.specs.Laws.{EntriesAreParameters, is_of_calls, is_parameter}
 use Rattle.ck_kernel.proofs.Searching.{position_cases}
 use Rattle.ck_kernel.proofs.RowLemmas.{blank, at_each, at_row, position_of_row}
 

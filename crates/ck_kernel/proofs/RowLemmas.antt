@@ -1,5 +1,6 @@
 -- The rows of the table, found by their names.
-use Rattle.std.proofs.Common.{◌≡◌, ℕ, ◌<◌, ◌≤◌, map, Bool, true, false, Some, None, List, [], ◌==◌, length, get_or, refl, sym, ◌∙◌, ap, inl, inr}
+use Rattle.std.proofs.Common.{◌≡◌, ℕ, ◌<◌, ◌≤◌, map, Bool, true, false, Some, None, List, [], ◌==◌, length, get_or}
+use Rattle.std.proofs.Common.{refl, sym, ◌∙◌, ap, inl, inr}
 use Rattle.std.specs.List.{find, position, slice_get}
 use Rattle.std.specs.Option.{option_eq, option_map, option_map_or, unwrap_or}
 use Rattle.std.specs.Str.{bytes_eq}

@@ -1,5 +1,6 @@
 -- What the searches `position` and `find` give.
-use Rattle.std.proofs.Common.{◌≡◌, ℕ, ◌<◌, Bool, true, false, Option, Some, None, ◌⊎◌, List, [], ◌∷◌, ◌==◌, length, get_or, refl, ap, inl, inr, eqb-true, arith}
+use Rattle.std.proofs.Common.{◌≡◌, ℕ, ◌<◌, Bool, true, false, Option, Some, None, ◌⊎◌, List, [], ◌∷◌, ◌==◌, length}
+use Rattle.std.proofs.Common.{get_or, refl, ap, inl, inr, eqb-true, arith}
 use Rattle.std.specs.List.{find, position, position_or_len}
 use Rattle.std.specs.Option.{option_eq}
 use Rattle.std.proofs.lemmas.Bool.{cases_lt, lt-ltb, le-ltb, cond-true, cond-false}

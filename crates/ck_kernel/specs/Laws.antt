@@ -1,5 +1,6 @@
 -- Laws of the kernel's call table.
-use Rattle.std.specs.Prelude.{◌≡◌, ◌≢◌, ◌==◌, ◌↔◌, ℕ, Bool, true, false, ◌&&◌, nat_le, List, Some, IsTrue, IfSome, IfNone, All, AllPairs, Any, option_and_then}
+use Rattle.std.specs.Prelude.{◌≡◌, ◌≢◌, ◌==◌, ◌↔◌, ℕ, Bool, true, false, ◌&&◌, nat_le, List, Some, IsTrue, IfSome}
+use Rattle.std.specs.Prelude.{IfNone, All, AllPairs, Any, option_and_then}
 use Rattle.std.specs.Option.{option_map}
 use Rattle.ck_base.specs.declared.ops.Op.{Op}
 use Rattle.ck_base.specs.declared.ops.Op.TheVariants.{Neutral, HandlerReturn, PairEnter, PairLeft}

@@ -1,5 +1,6 @@
 -- The rows in groups by the lengths of their names, as the code looks names up. Private contracts alone speak of it.
-use Rattle.std.specs.Prelude.{◌≡◌, ℕ, List, [], Bool, false, ◌||◌, nat_eq, codes, length, slice_get, find, position, unwrap_or}
+use Rattle.std.specs.Prelude.{◌≡◌, ℕ, List, [], Bool, false, ◌||◌, nat_eq, codes, length, slice_get, find, position}
+use Rattle.std.specs.Prelude.{unwrap_or}
 use Rattle.std.specs.List.{starts_with}
 use Rattle.std.specs.Option.{option_map_or}
 use Rattle.std.specs.Str.{bytes_eq}

@@ -1,5 +1,6 @@
 //! Laws about the table, each the contract of a function that does nothing.
-ghost use Rattle.ck_kernel.specs.Laws.{NamesDiffer, RowsHaveTheirNames, NamesHaveTheirRows, OthersHaveNone, OpsHaveCalls, EntriesAreParameters};
+ghost use Rattle.ck_kernel.specs.Laws.{NamesDiffer, RowsHaveTheirNames, NamesHaveTheirRows, OthersHaveNone};
+ghost use Rattle.ck_kernel.specs.Laws.{OpsHaveCalls, EntriesAreParameters};
 
 /// No two calls of the table have one name.
 pub fn names_differ()

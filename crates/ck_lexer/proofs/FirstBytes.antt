@@ -44,13 +44,19 @@ no_token text i n l p =
 
 -- the classes of first bytes exclude each other
 pub single-nondigit : (b : ℕ) → is_single b ≡ true → is_nondigit b ≡ false
-single-nondigit b h = from-not (is_nondigit b) (among-bytes (λ x. not (is_nondigit x)) b (codes "[](){}.&*+-~!/%<>^|?:;=,") refl h)
+single-nondigit b h =
+    from-not (is_nondigit b)
+    (among-bytes (λ x. not (is_nondigit x)) b (codes "[](){}.&*+-~!/%<>^|?:;=,") refl h)
 
 pub single-digit : (b : ℕ) → is_single b ≡ true → is_digit b ≡ false
-single-digit b h = from-not (is_digit b) (among-bytes (λ x. not (is_digit x)) b (codes "[](){}.&*+-~!/%<>^|?:;=,") refl h)
+single-digit b h =
+    from-not (is_digit b)
+    (among-bytes (λ x. not (is_digit x)) b (codes "[](){}.&*+-~!/%<>^|?:;=,") refl h)
 
 pub single-quote : (b : ℕ) → is_single b ≡ true → is_quote b ≡ false
-single-quote b h = from-not (is_quote b) (among-bytes (λ x. not (is_quote x)) b (codes "[](){}.&*+-~!/%<>^|?:;=,") refl h)
+single-quote b h =
+    from-not (is_quote b)
+    (among-bytes (λ x. not (is_quote x)) b (codes "[](){}.&*+-~!/%<>^|?:;=,") refl h)
 
 pub nondigit-digit : (b : ℕ) → is_nondigit b ≡ true → is_digit b ≡ false
 nondigit-digit b h = grind (arith, nat_tests)

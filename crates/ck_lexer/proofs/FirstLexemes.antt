@@ -1,12 +1,14 @@
 -- What the code scans first is what the text begins with.
-use Rattle.std.proofs.Common.{◌≡◌, ℕ, zero, suc, ◌+◌, ◌<◌, ◌≤◌, true, false, List, [], ◌∷◌, length, take, drop, get_or, Option, Some, None, refl, sym, ap, ◌∙◌, arith, ⊎_elim}
+use Rattle.std.proofs.Common.{◌≡◌, ℕ, zero, suc, ◌+◌, ◌<◌, ◌≤◌, true, false, List, [], ◌∷◌, length, take, drop, get_or}
+use Rattle.std.proofs.Common.{Option, Some, None, refl, sym, ap, ◌∙◌, arith, ⊎_elim}
 use Rattle.std.specs.Prelude.{◌==◌}
 use Rattle.std.specs.List.{prefix_len}
 use Rattle.ck_base.specs.declared.refusals.Unsupported.TheVariants.{U1, U2}
 use Rattle.ck_base.specs.declared.tokens.TokenKind.TheVariants.{Mark}
 use Rattle.ck_lexer.specs.Bytes.{is_nondigit, is_identifier_byte, is_quote, is_no_line_feed, quote, double_quote}
 use Rattle.ck_lexer.specs.Preprocessing.{is_identifier, is_number, is_quoted, is_closed, begins_number}
-use Rattle.ck_lexer.specs.Lexemes.{IsTokenOrFault, token, unclosed, bad, IsLongestToken, lexeme_of, identifier_lexeme, number_lexeme, character_lexeme, string_lexeme}
+use Rattle.ck_lexer.specs.Lexemes.{IsTokenOrFault, token, unclosed, bad, IsLongestToken, lexeme_of, identifier_lexeme}
+use Rattle.ck_lexer.specs.Lexemes.{number_lexeme, character_lexeme, string_lexeme}
 use Rattle.ck_lexer.specs.Scanning.{closing, moved_by, run_after, punctuator_size, literal_lexeme}
 use Rattle.ck_lexer.specs.declared.lexemes.Lexeme.{Lexeme}
 use Rattle.ck_lexer.specs.declared.lexemes.Lexeme.TheVariants.{Token, Fault}
@@ -14,7 +16,8 @@ use Rattle.ck_lexer.proofs.Tests.{and-both, or-left, or-right, or-either, no-tes
 use Rattle.ck_lexer.proofs.FirstBytes.{number-first, literal-first, nondigit-quote}
 use Rattle.ck_lexer.proofs.LiteralLemmas.{closing-is_closed}
 use Rattle.ck_lexer.proofs.Longest.{longest-word, word-identifier}
-use Rattle.ck_lexer.proofs.LongestNumber.{longest-number, number-number, number-no_identifier, number-no_quote, prefix-begins, run-fits}
+use Rattle.ck_lexer.proofs.LongestNumber.{longest-number, number-number, number-no_identifier, number-no_quote}
+use Rattle.ck_lexer.proofs.LongestNumber.{prefix-begins, run-fits}
 use Rattle.ck_lexer.proofs.LongestLiteral.{longest-literal, no_literal}
 use Rattle.ck_lexer.proofs.LongestMark.{BeginsMark, longest-mark, no_mark}
 

@@ -1,5 +1,6 @@
 -- The tokens kept so far, and one lexeme more.
-use Rattle.std.proofs.Common.{◌≡◌, ℕ, ◌+◌, ◌-◌, ◌≤◌, List, [], ◌∷◌, ◌++◌, length, Option, Some, None, inl, inr, refl, sym, subst, arith}
+use Rattle.std.proofs.Common.{◌≡◌, ℕ, ◌+◌, ◌-◌, ◌≤◌, List, [], ◌∷◌, ◌++◌, length, Option, Some, None, inl, inr, refl}
+use Rattle.std.proofs.Common.{sym, subst, arith}
 use Rattle.ck_base.specs.declared.refusals.Refusal.{Refusal}
 use Rattle.ck_base.specs.declared.refusals.Spot.TheVariants.{At}
 use Rattle.ck_base.specs.declared.refusals.Unsupported.{Unsupported}

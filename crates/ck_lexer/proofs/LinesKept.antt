@@ -1,5 +1,6 @@
 -- The map of a file up to an offset, and a lexeme further on.
-use Rattle.std.proofs.Common.{◌≡◌, ℕ, ◌+◌, ◌<◌, ◌≤◌, true, List, [], ◌∷◌, ◌++◌, length, drop, slice_index, false, refl, sym, subst, arith}
+use Rattle.std.proofs.Common.{◌≡◌, ℕ, ◌+◌, ◌<◌, ◌≤◌, true, List, [], ◌∷◌, ◌++◌, length, drop, slice_index, false, refl}
+use Rattle.std.proofs.Common.{sym, subst, arith}
 use Rattle.std.specs.List.{prefix_len}
 use Rattle.ck_lexer.specs.Bytes.{is_line_feed, is_no_line_feed}
 use Rattle.ck_lexer.specs.Cuts.{IsReached, IsLexeme}
@@ -13,7 +14,9 @@ use Rattle.ck_lexer.specs.declared.places.Line.{Line}
 use Rattle.ck_lexer.specs.declared.places.PlaceMap.{PlaceMap}
 use Rattle.ck_lexer.proofs.LineStarts.{line_end-feed, line_with, marker_feed}
 use Rattle.ck_lexer.proofs.LinesFound.{lines_first, lines_marked, lines_next, lines_on}
-use Rattle.ck_lexer.proofs.LexemeMarkers.{feed_lexeme, fresh_at_start, fresh_after_feed, fresh_after_unmarked, marked_feeds, marked_marker, marked_end, marked_small, marker_with, no_markers_in_lexeme, reached_more}
+use Rattle.ck_lexer.proofs.LexemeMarkers.{feed_lexeme, fresh_at_start, fresh_after_feed, fresh_after_unmarked}
+use Rattle.ck_lexer.proofs.LexemeMarkers.{marked_feeds, marked_marker, marked_end, marked_small, marker_with}
+use Rattle.ck_lexer.proofs.LexemeMarkers.{no_markers_in_lexeme, reached_more}
 use Rattle.ck_lexer.proofs.Sizes.{IsLexeme-lies}
 
 pub mapped_first : (name bytes : List ℕ) (map : PlaceMap) → names_of map.names.items ≡ name ∷ []

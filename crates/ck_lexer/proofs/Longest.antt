@@ -1,12 +1,14 @@
 -- The longest tokens that are words, numbers and literals.
-use Rattle.std.proofs.Common.{◌≡◌, ℕ, zero, suc, ◌+◌, ◌<◌, ◌≤◌, Bool, true, false, List, [], ◌∷◌, length, take, refl, arith, ⊎_elim}
+use Rattle.std.proofs.Common.{◌≡◌, ℕ, zero, suc, ◌+◌, ◌<◌, ◌≤◌, Bool, true, false, List, [], ◌∷◌, length, take, refl}
+use Rattle.std.proofs.Common.{arith, ⊎_elim}
 use Rattle.std.specs.List.{list_all, prefix_len}
 use Rattle.std.proofs.lemmas.List.Sums.{prefix_len-le-length}
 use Rattle.ck_lexer.specs.Bytes.{is_nondigit, is_identifier_byte}
 use Rattle.ck_lexer.specs.Preprocessing.{is_identifier, begins_number, is_preprocessing_token}
 use Rattle.ck_lexer.specs.Lexemes.{IsLongestToken}
 use Rattle.ck_lexer.proofs.Tests.{and-left, and-right, and-both, either-test}
-use Rattle.ck_lexer.proofs.FirstBytes.{no_token, number-first, literal-first, punctuator-first, single-nondigit, nondigit-digit, nondigit-point, nondigit-quote}
+use Rattle.ck_lexer.proofs.FirstBytes.{no_token, number-first, literal-first, punctuator-first, single-nondigit}
+use Rattle.ck_lexer.proofs.FirstBytes.{nondigit-digit, nondigit-point, nondigit-quote}
 
 -- runs of bytes that pass a test
 all-run : (p : ℕ → Bool) (xs : List ℕ) → list_all p (take (prefix_len p xs) xs) ≡ true

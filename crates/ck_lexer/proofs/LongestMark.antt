@@ -2,7 +2,8 @@
 use Rattle.std.proofs.Common.{◌≡◌, ℕ, zero, suc, ◌<◌, ◌≤◌, true, false, List, ◌∷◌, length, take, refl, arith}
 use Rattle.std.specs.Prelude.{◌||◌}
 use Rattle.ck_lexer.specs.Bytes.{is_nondigit, is_quote}
-use Rattle.ck_lexer.specs.Preprocessing.{is_identifier, is_number, is_literal, is_punctuator, begins_number, is_preprocessing_token}
+use Rattle.ck_lexer.specs.Preprocessing.{is_identifier, is_number, is_literal, is_punctuator, begins_number}
+use Rattle.ck_lexer.specs.Preprocessing.{is_preprocessing_token}
 use Rattle.ck_lexer.specs.Lexemes.{IsLongestToken, BeginsNoToken}
 use Rattle.ck_lexer.specs.Scanning.{punctuator_size}
 use Rattle.ck_lexer.proofs.Tests.{or-right}

@@ -1,5 +1,6 @@
 -- No file has two lists of tokens, two first faults, or both.
-use Rattle.std.proofs.Common.{◌≡◌, ℕ, ◌+◌, ◌-◌, ◌<◌, List, [], ◌∷◌, length, drop, length-drop, refl, sym, ap, ◌∙◌, subst, arith}
+use Rattle.std.proofs.Common.{◌≡◌, ℕ, ◌+◌, ◌-◌, ◌<◌, List, [], ◌∷◌, length, drop, length-drop, refl, sym, ap, ◌∙◌}
+use Rattle.std.proofs.Common.{subst, arith}
 use Rattle.ck_base.specs.declared.refusals.Refusal.{Refusal}
 use Rattle.ck_base.specs.declared.refusals.Spot.{Spot}
 use Rattle.ck_base.specs.declared.refusals.Spot.TheVariants.{At}

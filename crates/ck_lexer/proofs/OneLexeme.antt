@@ -2,7 +2,9 @@
 use Rattle.std.proofs.Common.{◌≡◌, ℕ, ◌+◌, ◌<◌, ◌≤◌, true, false, List, take, drop, refl, sym, ap, ◌∙◌, arith}
 use Rattle.std.proofs.lemmas.Bool.{both_ways}
 use Rattle.ck_lexer.specs.Cuts.{IsLexeme, is_clear}
-use Rattle.ck_lexer.specs.Lexemes.{Beginning, BeginsNoToken, IsComment, IsDirective, IsLongestToken, IsTokenOrFault, IsLexemeOf, beginning_of, bad, closed, closes_at, marker, open_, lexeme_of, pragma, token, unclosed}
+use Rattle.ck_lexer.specs.Lexemes.{Beginning, BeginsNoToken, IsComment, IsDirective, IsLongestToken, IsTokenOrFault}
+use Rattle.ck_lexer.specs.Lexemes.{IsLexemeOf, beginning_of, bad, closed, closes_at, marker, open_, lexeme_of, pragma}
+use Rattle.ck_lexer.specs.Lexemes.{token, unclosed}
 use Rattle.ck_lexer.specs.Lexemes.{WhiteSpace, Block, Line, Hash, Other}
 use Rattle.ck_lexer.specs.Preprocessing.{is_preprocessing_token}
 use Rattle.ck_lexer.specs.declared.lexemes.Lexeme.{Lexeme}

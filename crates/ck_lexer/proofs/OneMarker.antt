@@ -229,7 +229,8 @@ number_sound number text name read = either (nat_le 1 (prefix_len is_digit text)
       yes e =
           let n : ℕ = prefix_len is_digit text in
           let parts = and_parts (nat_le 1 n) (nat_le n 9) e in
-          numbered n number text name (prefix_all is_digit text) (length-prefix_len is_digit text) (leb-true 1 n parts.0)
+          numbered n number text name (prefix_all is_digit text) (length-prefix_len is_digit text)
+          (leb-true 1 n parts.0)
           (leb-true n 9 parts.1)
           (name_sound (value_of 10 (take n text)) number (after_blanks (drop n text)) name (rw e at read))
 

@@ -1,5 +1,6 @@
 -- Each offset has one place.
-use Rattle.std.proofs.Common.{◌≡◌, ℕ, zero, suc, ◌+◌, ◌<◌, ◌≤◌, Bool, true, List, [], ◌∷◌, take, drop, slice_index, refl, sym, ap, ◌∙◌, subst, arith, le_antisymm}
+use Rattle.std.proofs.Common.{◌≡◌, ℕ, zero, suc, ◌+◌, ◌<◌, ◌≤◌, Bool, true, List, [], ◌∷◌, take, drop, slice_index}
+use Rattle.std.proofs.Common.{refl, sym, ap, ◌∙◌, subst, arith, le_antisymm}
 use Rattle.std.specs.Prelude.{slice_range}
 use Rattle.std.specs.List.{prefix_len}
 use Rattle.ck_lexer.specs.Bytes.{is_no_line_feed}

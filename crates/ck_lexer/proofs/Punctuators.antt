@@ -1,9 +1,11 @@
 -- The longest punctuator.
-use Rattle.std.proofs.Common.{◌≡◌, ℕ, zero, suc, ◌<◌, ◌≤◌, Bool, true, false, List, [], ◌∷◌, length, take, get_or, refl, sym, arith, ⊎_elim}
+use Rattle.std.proofs.Common.{◌≡◌, ℕ, zero, suc, ◌<◌, ◌≤◌, Bool, true, false, List, [], ◌∷◌, length, take, get_or, refl}
+use Rattle.std.proofs.Common.{sym, arith, ⊎_elim}
 use Rattle.std.specs.Prelude.{◌&&◌, ◌||◌, ◌==◌, codes, if◌then◌else◌}
 use Rattle.ck_lexer.specs.Preprocessing.{is_punctuator, punctuators}
 use Rattle.ck_lexer.specs.Scanning.{is_one_of, is_shift_assignment, is_ellipsis, is_pair, is_single, punctuator_size}
-use Rattle.ck_lexer.proofs.Tests.{and-left, and-right, and-not_right, or-either, or-none, no-test, eqb-same, among-texts, among-bytes}
+use Rattle.ck_lexer.proofs.Tests.{and-left, and-right, and-not_right, or-either, or-none, no-test, eqb-same}
+use Rattle.ck_lexer.proofs.Tests.{among-texts, among-bytes}
 
 -- the punctuators by their bytes
 abbrev pub is_mark : List ℕ → Bool
@@ -46,8 +48,12 @@ pair-punctuator a b h =
     ⊎_elim
     (λ (x : ((b == 61 && is_one_of (codes "<>=!*/%+-&^|") a) || (b == a && is_one_of (codes "+-<>&|") a)) ≡ true).
     ⊎_elim
-    (λ (y : (b == 61 && is_one_of (codes "<>=!*/%+-&^|") a) ≡ true). let e : b ≡ 61 = eqb-same b 61 (and-left (b == 61) _ y) in rw e (equals-punctuator a (and-right (b == 61) _ y)))
-    (λ (y : (b == a && is_one_of (codes "+-<>&|") a) ≡ true). let e : b ≡ a = eqb-same b a (and-left (b == a) _ y) in rw e (doubled-punctuator a (and-right (b == a) _ y)))
+    (λ (y : (b == 61 && is_one_of (codes "<>=!*/%+-&^|") a) ≡ true).
+    let e : b ≡ 61 = eqb-same b 61 (and-left (b == 61) _ y) in
+    rw e (equals-punctuator a (and-right (b == 61) _ y)))
+    (λ (y : (b == a && is_one_of (codes "+-<>&|") a) ≡ true).
+    let e : b ≡ a = eqb-same b a (and-left (b == a) _ y) in
+    rw e (doubled-punctuator a (and-right (b == a) _ y)))
     (or-either _ _ x))
     (λ (x : (a == 45 && b == 62) ≡ true). let d : a ≡ 45 = eqb-same a 45 (and-left (a == 45) _ x) in
     let e : b ≡ 62 = eqb-same b 62 (and-right (a == 45) _ x) in rw (d, e) arrow-punctuator)
@@ -109,12 +115,17 @@ takes-three false two one on = absurd (cc)
 
 -- past the end there are zeros, which no punctuator has
 no_third : (a b : ℕ) → (is_shift_assignment a b 0 || is_ellipsis a b 0) ≡ false
-no_third a b = or-none _ _ (and-not_right (is_one_of (codes "<>") a && b == a) false refl) (and-not_right (a == 46 && b == 46) false refl)
+no_third a b =
+    or-none _ _ (and-not_right (is_one_of (codes "<>") a && b == a) false refl)
+    (and-not_right (a == 46 && b == 46) false refl)
 
 no_second : (a : ℕ) → is_pair a 0 ≡ false
 no_second a =
     or-none _ _
-    (or-none _ _ refl (no-test (0 == a && is_one_of (codes "+-<>&|") a) (λ h. zero_doubled (sym (eqb-same 0 a (and-left (0 == a) (is_one_of (codes "+-<>&|") a) h))) (and-right (0 == a) (is_one_of (codes "+-<>&|") a) h))))
+    (or-none _ _ refl
+    (no-test (0 == a && is_one_of (codes "+-<>&|") a)
+    (λ h. zero_doubled (sym (eqb-same 0 a (and-left (0 == a) (is_one_of (codes "+-<>&|") a) h)))
+    (and-right (0 == a) (is_one_of (codes "+-<>&|") a) h))))
     (and-not_right (a == 45) false refl) where
       zero_doubled : a ≡ 0 → is_one_of (codes "+-<>&|") a ≡ true → ⊥
       zero_doubled e h = let k : is_one_of (codes "+-<>&|") a ≡ false = rw e refl in absurd (cc)

@@ -1,5 +1,6 @@
 -- A lexeme takes a byte at least, and ends within the file.
-use Rattle.std.proofs.Common.{◌≡◌, ℕ, zero, suc, ◌+◌, ◌<◌, ◌≤◌, Bool, true, false, List, [], ◌∷◌, length, take, drop, get_or, refl, sym, ◌∙◌, arith, ⊎_elim, length-drop}
+use Rattle.std.proofs.Common.{◌≡◌, ℕ, zero, suc, ◌+◌, ◌<◌, ◌≤◌, Bool, true, false, List, [], ◌∷◌, length, take, drop}
+use Rattle.std.proofs.Common.{get_or, refl, sym, ◌∙◌, arith, ⊎_elim, length-drop}
 use Rattle.std.specs.Prelude.{◌==◌, ◌≢◌, ◌&&◌, if◌then◌else◌}
 use Rattle.std.specs.List.{prefix_len}
 use Rattle.std.proofs.lemmas.List.{get_or_past}
@@ -8,7 +9,9 @@ use Rattle.std.proofs.lemmas.Bool.Decides.{nat_tests}
 use Rattle.std.proofs.str.Laws.{order}
 use Rattle.ck_lexer.specs.Bytes.{is_line_feed, is_line_space, is_no_line_feed, is_quote, is_white_space}
 use Rattle.ck_lexer.specs.Cuts.{IsLexeme, is_clear}
-use Rattle.ck_lexer.specs.Lexemes.{IsTokenOrFault, token, unclosed, bad, IsComment, closed, open_, closes_at, Beginning, WhiteSpace, Block, Line, Hash, Other, begins_block, begins_line_comment, beginning_of, IsLexemeOf, IsLongestToken, white_space_size}
+use Rattle.ck_lexer.specs.Lexemes.{IsTokenOrFault, token, unclosed, bad, IsComment, closed, open_, closes_at, Beginning}
+use Rattle.ck_lexer.specs.Lexemes.{WhiteSpace, Block, Line, Hash, Other, begins_block, begins_line_comment}
+use Rattle.ck_lexer.specs.Lexemes.{beginning_of, IsLexemeOf, IsLongestToken, white_space_size}
 use Rattle.ck_lexer.specs.Markers.{hash}
 use Rattle.ck_lexer.specs.Preprocessing.{is_preprocessing_token, is_punctuator}
 use Rattle.ck_lexer.specs.declared.lexemes.Lexeme.{Lexeme}

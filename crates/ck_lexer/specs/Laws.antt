@@ -1,4 +1,5 @@
--- What the definitions fix: no bytes have two readings. (That each file has tokens or a first fault is what `first_fault`
+-- What the definitions fix: no bytes have two readings. (That each file has tokens or a first fault is what
+-- `first_fault`
 -- ensures.)
 use Rattle.std.specs.Prelude.{◌≡◌, ℕ, List, length}
 use Rattle.ck_base.specs.declared.refusals.Refusal.{Refusal}

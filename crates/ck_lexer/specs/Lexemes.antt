@@ -1,4 +1,5 @@
--- The lexeme that a text begins with: white space, a comment, a marker or a pragma, which part tokens; a token, which is the
+-- The lexeme that a text begins with: white space, a comment, a marker or a pragma, which part tokens; a token, which
+-- is the
 -- longest that starts there (C99 6.4); or a fault. docs/TOKENS.md has the rules in words.
 use Rattle.std.specs.Prelude.{◌≡◌, ◌≤◌, ◌<◌, ℕ, ◌+◌, Bool, true, false, ◌&&◌, List, length, take, slice_index}
 use Rattle.std.specs.Prelude.{if◌then◌else◌}

@@ -1,5 +1,6 @@
 -- How the code finds a file's lines. Private contracts alone speak of it; proofs/ join it with the definitions.
-use Rattle.std.specs.Prelude.{◌≡◌, ◌≤◌, ◌<◌, ℕ, ◌+◌, ◌-◌, true, ◌⊎◌, List, length, take, slice_index, slice_index_or, Some, None}
+use Rattle.std.specs.Prelude.{◌≡◌, ◌≤◌, ◌<◌, ℕ, ◌+◌, ◌-◌, true, ◌⊎◌, List, length, take, slice_index, slice_index_or}
+use Rattle.std.specs.Prelude.{Some, None}
 use Rattle.std.specs.List.{All, Contains, slice_range}
 use Rattle.std.specs.List.Sorted.{IsNonDecreasingBy}
 use Rattle.ck_lexer.specs.Bytes.{is_line_feed}

@@ -1,6 +1,7 @@
 -- What a place is found from: a file's lines, each with its start, its number and its name's index among the names
 -- (docs/TOKENS.md, "Places").
-use Rattle.std.specs.Prelude.{◌≡◌, ◌≤◌, ◌<◌, ℕ, ◌+◌, ◌-◌, true, false, List, [], length, map, slice_index, slice_index_or}
+use Rattle.std.specs.Prelude.{◌≡◌, ◌≤◌, ◌<◌, ℕ, ◌+◌, ◌-◌, true, false, List, [], length, map, slice_index}
+use Rattle.std.specs.Prelude.{slice_index_or}
 use Rattle.std.specs.List.{All, HoldsAt}
 use Rattle.std.specs.List.Sorted.{IsNonDecreasingBy}
 use Rattle.std.specs.declared.alloc.Global.{Global}
@@ -48,7 +49,8 @@ StartsAt at line = line.start ≡ at
 abbrev pub HasStart : List Line → ℕ → Type 0
 HasStart lines at = (k : ℕ) × (k < length lines) × HoldsAt (StartsAt at) lines k
 
--- The lines of a file of at most 1,048,576 bytes, whose columns therefore fit 32 bits: each is a line of it, they are in
+-- The lines of a file of at most 1,048,576 bytes, whose columns therefore fit 32 bits: each is a line of it, they are
+-- in
 -- order, one starts at the file's start, and one after each line feed.
 pub record IsPlaceMapOf (name bytes : List ℕ) (m : PlaceMap) : Type 0 where
   pub small : length bytes ≤ most_bytes

@@ -1,4 +1,5 @@
--- Names, lines and columns (docs/TOKENS.md, "Places"). Until a marker comes the name is the file's, and lines count from 1.
+-- Names, lines and columns (docs/TOKENS.md, "Places"). Until a marker comes the name is the file's, and lines count
+-- from 1.
 -- A marker gives the name and the number of the next line, so it counts for the bytes after its line feed.
 use Rattle.std.specs.Prelude.{◌≡◌, ◌≤◌, ◌<◌, ℕ, ◌+◌, true, List, length, take, drop, count_by}
 use Rattle.std.specs.List.{prefix_len, suffix_len, slice_range}

@@ -1,4 +1,5 @@
--- Preprocessing tokens (C99 6.4): what a token can be by its bytes alone. There are no header names in preprocessed text,
+-- Preprocessing tokens (C99 6.4): what a token can be by its bytes alone. There are no header names in preprocessed
+-- text,
 -- and neither `#`, `##` nor a digraph is a punctuator here (docs/TOKENS.md, "Tokens").
 use Rattle.std.specs.Prelude.{ℕ, Bool, true, false, ◌||◌, ◌&&◌, not, ◌==◌, List, [], ◌∷◌, codes, if◌then◌else◌}
 use Rattle.std.specs.List.{list_all, list_any}

@@ -1,5 +1,7 @@
--- The tokens of a file's bytes (C99 6.4): their spans rise; before the first, between them and after the last there are white
--- space, comments, markers and pragmas; and each is the longest token that starts at its first byte, where no comment starts.
+-- The tokens of a file's bytes (C99 6.4): their spans rise; before the first, between them and after the last there
+-- are white
+-- space, comments, markers and pragmas; and each is the longest token that starts at its first byte, where no comment
+-- starts.
 use Rattle.std.specs.Prelude.{◌≡◌, ◌≤◌, ◌<◌, ℕ, ◌+◌, ◌-◌, List, [], ◌∷◌, length}
 use Rattle.ck_base.specs.declared.refusals.Refusal.{Refusal}
 use Rattle.ck_base.specs.declared.refusals.Spot.TheVariants.{At}

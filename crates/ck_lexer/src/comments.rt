@@ -8,7 +8,8 @@ use crate::runs::{Class, class_run};
 pub(crate) fn comment_close(rest: &[u8]) -> Option<usize>
     ensures { MatchOption result
         ((k : ℕ) → 2 ≤ k → spec.closes_at rest.now k ≡ false)
-        (λ k. (2 ≤ k) × (spec.closes_at rest.now k ≡ true) × ((j : ℕ) → 2 ≤ j → j < k → spec.closes_at rest.now j ≡ false)) }
+        (λ k. (2 ≤ k) × (spec.closes_at rest.now k ≡ true)
+        × ((j : ℕ) → 2 ≤ j → j < k → spec.closes_at rest.now j ≡ false)) }
 {
     let mut at = 2;
     'stars: while at < rest.len() {

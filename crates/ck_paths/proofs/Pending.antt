@@ -1,5 +1,6 @@
 -- The exits of a path are found from the greatest on.
-use Rattle.std.proofs.Common.{◌≡◌, ℕ, zero, suc, ◌<◌, ◌⊎◌, Bool, true, false, List, [], ◌∷◌, Some, length, slice_get, take, get_or, refl, sym, ap, ◌∙◌, subst, inl, inr, arith}
+use Rattle.std.proofs.Common.{◌≡◌, ℕ, zero, suc, ◌<◌, ◌⊎◌, Bool, true, false, List, [], ◌∷◌, Some, length, slice_get}
+use Rattle.std.proofs.Common.{take, get_or, refl, sym, ap, ◌∙◌, subst, inl, inr, arith}
 use Rattle.std.specs.Prelude.{Option}
 use Rattle.std.specs.BTreeSet.{BTreeSet}
 use Rattle.std.proofs.lemmas.Bool.{cases_lt}
@@ -8,7 +9,8 @@ use Rattle.ck_graph.specs.declared.entries.Root.{Root}
 use Rattle.ck_graph.specs.Flow.{Flow}
 use Rattle.ck_paths.specs.declared.found.Place.{Place}
 use Rattle.ck_paths.specs.Justified.{AreJustified}
-use Rattle.ck_paths.specs.Citing.{Cites, IsListed, AreAscending, IsAtExit, AreExitsFor, IsIn, AddsExit, AddsCited, TakesGreatest, GoesBack, WalkedBack, ArePending}
+use Rattle.ck_paths.specs.Citing.{Cites, IsListed, AreAscending, IsAtExit, AreExitsFor, IsIn, AddsExit, AddsCited}
+use Rattle.ck_paths.specs.Citing.{TakesGreatest, GoesBack, WalkedBack, ArePending}
 use Rattle.ck_paths.proofs.Lists.{take-get}
 use Rattle.ck_paths.proofs.Citations.{cited-exit, cited-below}
 

@@ -19,7 +19,8 @@ use Rattle.ck_paths.specs.declared.found.Reason.TheVariants.{IntoCall}
 use Rattle.ck_paths.specs.Found.{IsAt}
 use Rattle.ck_paths.specs.Justified.{AreJustified, Enters, function_of}
 use Rattle.ck_paths.specs.Search.{IsReady}
-use Rattle.ck_paths.specs.Tracing.{own_function, does_of, IsInside, IsTrace, IsEntryAt, IsSegmentTo, IsSegmentInto, IsEnteredFrom}
+use Rattle.ck_paths.specs.Tracing.{own_function, does_of, IsInside, IsTrace, IsEntryAt, IsSegmentTo, IsSegmentInto}
+use Rattle.ck_paths.specs.Tracing.{IsEnteredFrom}
 use Rattle.ck_paths.proofs.Citations.{one, holds}
 
 -- functions of one number are one

@@ -1,5 +1,6 @@
 -- The segments of a path are in form and fit the states.
-use Rattle.std.proofs.Common.{◌≡◌, ℕ, ◌<◌, ◌⊎◌, ◌++◌, suc, true, false, List, [], ◌∷◌, Some, length, get_or, slice_get, take, refl, sym, ap, ◌∙◌, subst, inl, inr, arith}
+use Rattle.std.proofs.Common.{◌≡◌, ℕ, ◌<◌, ◌⊎◌, ◌++◌, suc, true, false, List, [], ◌∷◌, Some, length, get_or, slice_get}
+use Rattle.std.proofs.Common.{take, refl, sym, ap, ◌∙◌, subst, inl, inr, arith}
 use Rattle.std.specs.Prelude.{slice_index_or}
 use Rattle.std.specs.List.{Contains}
 use Rattle.std.proofs.lemmas.Bool.{cases_lt}
@@ -24,11 +25,13 @@ use Rattle.ck_paths.specs.Found.{IsAt}
 use Rattle.ck_paths.specs.Justified.{AreJustified, StartsAt, function_of}
 use Rattle.ck_paths.specs.Citing.{Cites, AreAscending, AreExitsFor}
 use Rattle.ck_paths.specs.Search.{IsReady}
-use Rattle.ck_paths.specs.Tracing.{IsEnteredFrom, IsSegmentInto, no_place, own_function, does_at, does_of, HasCallTo, IsSegmentTo, AreToExits, AreOpen}
+use Rattle.ck_paths.specs.Tracing.{IsEnteredFrom, IsSegmentInto, no_place, own_function, does_at, does_of, HasCallTo}
+use Rattle.ck_paths.specs.Tracing.{IsSegmentTo, AreToExits, AreOpen}
 use Rattle.ck_paths.proofs.Lists.{take-get, get-take}
 use Rattle.ck_paths.proofs.Citations.{one, cites-root, cites-caller}
 use Rattle.ck_paths.proofs.Traces.{does-there}
-use Rattle.ck_paths.proofs.SegmentRuns.{AreMatched, RunsTo, same-function, lead-from_runs, stays-from_runs, runs-to, runs-into}
+use Rattle.ck_paths.proofs.SegmentRuns.{AreMatched, RunsTo, same-function, lead-from_runs, stays-from_runs, runs-to}
+use Rattle.ck_paths.proofs.SegmentRuns.{runs-into}
 
 -- a number is at one place of an ascending list
 pub one-place : (xs : List ℕ) (i j x : ℕ) → AreAscending xs → slice_get xs i ≡ Some x → slice_get xs j ≡ Some x → i ≡ j

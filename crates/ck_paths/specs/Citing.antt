@@ -1,5 +1,6 @@
 -- Which exits the way back from a place cites, and lists and sets of exits. It serves private contracts alone.
-use Rattle.std.specs.Prelude.{◌≡◌, ◌<◌, ◌^◌, ◌⊎◌, ℕ, Bool, true, false, IsTrue, List, Some, Option, length, slice_get, slice_index_or, take}
+use Rattle.std.specs.Prelude.{◌≡◌, ◌<◌, ◌^◌, ◌⊎◌, ℕ, Bool, true, false, IsTrue, List, Some, Option, length, slice_get}
+use Rattle.std.specs.Prelude.{slice_index_or, take}
 use Rattle.std.specs.Ordering.{nat_cmp}
 use Rattle.std.specs.BTreeSet.{BTreeSet, contains}
 use Rattle.ck_graph.specs.Flow.{Flow}

@@ -1,5 +1,6 @@
 -- From a place back to where its function is entered. It serves private contracts alone.
-use Rattle.std.specs.Prelude.{◌≡◌, ◌<◌, ◌≤◌, ◌⊎◌, ◌++◌, ⊤, ℕ, Bool, List, [], ◌∷◌, All, Contains, Some, length, map, slice_get, slice_index_or, take}
+use Rattle.std.specs.Prelude.{◌≡◌, ◌<◌, ◌≤◌, ◌⊎◌, ◌++◌, ⊤, ℕ, Bool, List, [], ◌∷◌, All, Contains, Some, length, map}
+use Rattle.std.specs.Prelude.{slice_get, slice_index_or, take}
 use Rattle.ck_base.specs.declared.spans.FnId.{FnId}
 use Rattle.ck_base.specs.declared.states.State.TheVariants.{TI}
 use Rattle.ck_graph.specs.Flow.{Flow, point_at}

@@ -1,5 +1,7 @@
 -- The composition of two relations: the masks of the second one are joined, each where a bit of the first one says so.
-use Rattle.std.proofs.Common.{◌≡◌, ◌≤◌, ℕ, ◌+◌, ◌*◌, ◌<◌, ◌↔◌, List, length, get_or, map, bit_or, sym, ap, ◌∙◌, inl, inr, arith, below_more, zero, suc, ◌/◌, ◌%◌, [], ◌∷◌, replicate, bit_and, ◌^◌, mod-eq_of_lt, refl, subst}
+use Rattle.std.proofs.Common.{◌≡◌, ◌≤◌, ℕ, ◌+◌, ◌*◌, ◌<◌, ◌↔◌, List, length, get_or, map, bit_or, sym, ap, ◌∙◌, inl}
+use Rattle.std.proofs.Common.{inr, arith, below_more, zero, suc, ◌/◌, ◌%◌, [], ◌∷◌, replicate, bit_and, ◌^◌}
+use Rattle.std.proofs.Common.{mod-eq_of_lt, refl, subst}
 use Rattle.std.specs.Int.{bit_at}
 use Rattle.std.specs.Simd.Lanes.{zip2}
 use Rattle.std.proofs.lemmas.List.{get_or-map, length-map}

@@ -1,5 +1,6 @@
 -- What is in the list of a relation's pairs, and in a composition of such lists.
-use Rattle.std.proofs.Common.{◌≡◌, ℕ, ◌<◌, ◌↔◌, ◌⊎◌, List, ◌++◌, slice_index, Bool, eqb, refl, sym, ◌∙◌, subst, inl, inr, arith}
+use Rattle.std.proofs.Common.{◌≡◌, ℕ, ◌<◌, ◌↔◌, ◌⊎◌, List, ◌++◌, slice_index, Bool, eqb, refl, sym, ◌∙◌, subst, inl}
+use Rattle.std.proofs.Common.{inr, arith}
 use Rattle.std.specs.List.{Contains}
 use Rattle.std.specs.Int.{bit_at}
 use Rattle.std.proofs.lemmas.Bool.{eq-eqb, eqb-true}
@@ -7,7 +8,8 @@ use Rattle.std.proofs.lemmas.List.Elements.{Contains-append_left, Contains-appen
 use Rattle.std.proofs.lemmas.List.FromFn.{get_or-range_with_len, length-range_with_len}
 use Rattle.ck_rows.specs.declared.rows.Rows.{Rows}
 use Rattle.ck_rows.specs.Relation.{Pair, pair, sixteen, pairs_of_mask, pairs, composition, HaveSamePairs, Relates}
-use Rattle.ck_rows.proofs.Choices.{In, Contains-from_In, In-from_Contains, In-chosen, chosen-cases, Contains-flat_map, flat_map-cases}
+use Rattle.ck_rows.proofs.Choices.{In, Contains-from_In, In-from_Contains, In-chosen, chosen-cases, Contains-flat_map}
+use Rattle.ck_rows.proofs.Choices.{flat_map-cases}
 
 In-sixteen : (i : ℕ) → In i sixteen ↔ i < 16
 unfolding sixteen

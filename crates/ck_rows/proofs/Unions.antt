@@ -1,5 +1,7 @@
 -- The union of two relations, which joins their masks lane by lane.
-use Rattle.std.proofs.Common.{◌≡◌, ℕ, zero, suc, ◌^◌, ◌<◌, ◌≤◌, ◌⊎◌, ◌↔◌, Bool, true, false, not, nat_eq, List, [], ◌∷◌, length, get_or, bit_or, refl, ap, ◌∙◌, subst, inl, inr, arith, Fits, w16, ◌≢◌, ◌+◌, ◌%◌, max, sym}
+use Rattle.std.proofs.Common.{◌≡◌, ℕ, zero, suc, ◌^◌, ◌<◌, ◌≤◌, ◌⊎◌, ◌↔◌, Bool, true, false, not, nat_eq, List, [], ◌∷◌}
+use Rattle.std.proofs.Common.{length, get_or, bit_or, refl, ap, ◌∙◌, subst, inl, inr, arith, Fits, w16, ◌≢◌, ◌+◌, ◌%◌}
+use Rattle.std.proofs.Common.{max, sym}
 use Rattle.std.specs.Int.{bit_at, w16, trailing_zeros}
 use Rattle.std.specs.List.{Contains, sum_by}
 use Rattle.std.specs.Cmp.Lexicographic.{pointwise, same_text, other_text}
@@ -12,7 +14,8 @@ use Rattle.ck_rows.specs.declared.rows.Rows.{Rows}
 use Rattle.ck_rows.specs.Relation.{pair, pairs, rows_of, HasNewPair, Relates}
 use Rattle.ck_rows.specs.Room.{mask_room}
 use Rattle.ck_rows.proofs.PairLists.{pairs-bits, relates}
-use Rattle.std.proofs.lemmas.Nat.Bits.{bit_at_or, bit_at-lt, bit_at-zero, same_from_bits, bit_at_xor, bit_at-trailing_zeros}
+use Rattle.std.proofs.lemmas.Nat.Bits.{bit_at_or, bit_at-lt, bit_at-zero, same_from_bits, bit_at_xor}
+use Rattle.std.proofs.lemmas.Nat.Bits.{bit_at-trailing_zeros}
 use Rattle.std.specs.Int.Bits.{bit_xor}
 
 or-bits : (a b k : ℕ) → bit_at (bit_or a b) k ≡ 1 ↔ ((bit_at a k ≡ 1) ⊎ (bit_at b k ≡ 1))

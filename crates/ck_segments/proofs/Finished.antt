@@ -1,5 +1,6 @@
 -- What the finished segments expand to, and that they lead through their functions.
-use Rattle.std.proofs.Common.{◌≡◌, ℕ, suc, cond, false, List, [], ◌∷◌, ◌++◌, Some, length, slice_get, take, refl, sym, ap, ◌∙◌, subst, append_assoc, inl, inr, arith, length-append}
+use Rattle.std.proofs.Common.{◌≡◌, ℕ, suc, cond, false, List, [], ◌∷◌, ◌++◌, Some, length, slice_get, take, refl, sym}
+use Rattle.std.proofs.Common.{ap, ◌∙◌, subst, append_assoc, inl, inr, arith, length-append}
 use Rattle.std.specs.Prelude.{slice_index_or}
 use Rattle.std.specs.List.{All}
 use Rattle.std.proofs.lemmas.List.Elements.{All-head, All-tail}

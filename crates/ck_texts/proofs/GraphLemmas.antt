@@ -20,7 +20,8 @@ at_point P flow n all there = all n no_point there
 
 -- the name of a point's act is there
 pub HasActName-at : (flow : Flow) (names : Names) (maps : List PlaceMap) (n : ℕ) (kind : PointKind) (op : Op)
-    (act : ActName) → AreNamesOf flow names maps → n < point_count flow → kind ≡ (point_at flow n).kind → kind ≡ Act op act
+    (act : ActName) → AreNamesOf flow names maps → n < point_count flow → kind ≡ (point_at flow n).kind
+    → kind ≡ Act op act
     → HasActName names act
 HasActName-at flow names maps n kind op act are there is is_act =
     subst (HasName names) (sym is ∙ is_act) (at_point (λ point. HasName names point.kind) flow n are.acts there)

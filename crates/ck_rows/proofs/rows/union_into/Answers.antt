@@ -2,7 +2,8 @@ use Rattle.std.proofs.Common.{◌≡◌, ℕ, ◌<◌, ◌^◌, ◌⊎◌, get_o
 use Rattle.ck_rows.specs.Relation.{rows_of, Relates}
 use Rattle.ck_rows.specs.Room.{room}
 use Rattle.ck_rows.proofs.PairLists.{HaveSamePairs-union}
-use Rattle.ck_rows.proofs.Unions.{HasGrown, Relates-union, same-or-grown, new-pair, grown-room, is-answer, true-from_new_pair}
+use Rattle.ck_rows.proofs.Unions.{HasGrown, Relates-union, same-or-grown, new-pair, grown-room, is-answer}
+use Rattle.ck_rows.proofs.Unions.{true-from_new_pair}
 use Rattle.ck_rows.proofs.rows.union_into.Goals as goal
 
 pub returns : goal.returns

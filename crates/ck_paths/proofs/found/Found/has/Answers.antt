@@ -5,7 +5,8 @@ use Rattle.ck_paths.specs.declared.found.Place.{Place}
 use Rattle.ck_paths.specs.Found.{IsAt, last_at}
 use Rattle.ck_paths.proofs.Links.{Passed, LinksTo, Passed-start, Passed-more, LinksTo-start, LinksTo-more}
 use Rattle.ck_paths.proofs.found.Found.has.Goals as goal
-use Rattle.ck_paths.proofs.found.Found.has.Goals.{else-is_same-via-then-is_same+else-is_same-2, else-is_same-via-else-is_same}
+use Rattle.ck_paths.proofs.found.Found.has.Goals.{else-is_same-via-then-is_same+else-is_same-2}
+use Rattle.ck_paths.proofs.found.Found.has.Goals.{else-is_same-via-else-is_same}
 
 pub links-init : goal.links-init
 unfolding last_at

@@ -14,5 +14,7 @@ returns-in-FunctionDefinition g c =
     let d = declarator (declarator_tree f.declarator) in
     first_along external _ (ap external_tree f.is)
     (first_unwrap (λ more. s (d more)) (λ more. f.opening ∷ items (item_trees f.items.items) (f.closing ∷ more)) _ _
-    c.unwrap_or.ensures (first_or s d _ _ c.or.ensures c.first_of_specifiers.ensures c.first_token-in-FunctionDefinition.ensures)
+    c.unwrap_or.ensures
+    (first_or s d _ _ c.or.ensures c.first_of_specifiers.ensures
+    c.first_token-in-FunctionDefinition.ensures)
     (λ more. refl))
