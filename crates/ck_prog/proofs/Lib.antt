@@ -14,6 +14,8 @@ mod SensesFit
 mod BodiesDeclare
 -- calls_ascend
 mod CallsAscend
+-- stays_compatible
+mod TypesOverFiles
 -- tells_the_first, tells_some
 mod FirstRefused
 -- Worked texts
@@ -38,5 +40,8 @@ mod WorkedFirmware
 mod WorkedCalls
 mod WorkedInitialisers
 mod WorkedStructs
+mod WorkedParameterTags
+mod WorkedTentative
+mod WorkedKernelCalls
 mod WorkedSlots
 mod WorkedTables

@@ -13,6 +13,7 @@ use Rattle.ck_grammar.specs.Trees.{Expr, Operands, Suffixes, Name, Constant, Str
 use Rattle.ck_grammar.specs.Trees.{Cast, Chain, Conditional, Assignment, NoOperands, Operand, NoSuffixes, Index}
 use Rattle.ck_grammar.specs.Trees.{CallEmpty, Call, MemberAccess, PostIncrement}
 use Rattle.ck_types.specs.ConstantTypes.{first_representing, candidates, with_value, constant_in, suffix_written}
+use Rattle.ck_types.specs.ConstantTypes.{is_character, as_int, constant}
 use Rattle.ck_types.specs.IntegerTypes.{represents}
 use Rattle.ck_types.specs.declared.integer_types.IntegerType.{IntegerType}
 use Rattle.ck_types.specs.declared.operators.IntegerValue.{IntegerValue}
@@ -28,7 +29,6 @@ use Rattle.ck_prog.specs.Declarations.{meaning_of}
 use Rattle.ck_prog.specs.Derivations.{made}
 use Rattle.ck_prog.specs.Growing.{AreFitting, AreBytes, is_fitting}
 use Rattle.ck_prog.specs.Linking.{unqualified_type}
-use Rattle.ck_prog.specs.Literals.{is_character, as_int, constant}
 use Rattle.ck_prog.specs.Operators.{operator, prefix, assigning}
 use Rattle.ck_prog.specs.PostfixSenses.{element, result, access}
 use Rattle.ck_prog.specs.BinarySenses.{binary_sense}

@@ -23,7 +23,8 @@ use Rattle.ck_prog.specs.Linking.{StorageClass, TypedefClass, ExternClass, Stati
 use Rattle.ck_prog.specs.Linking.{declared_as, function_declared, storage_class}
 use Rattle.ck_prog.specs.Senses.{Constancy, Varying, Valueless, Known}
 use Rattle.ck_prog.specs.Sizes.{completed, next_member}
-use Rattle.ck_prog.specs.Tags.{Around, nothing_around, struct_of_body, new_struct, tag_name, tag_token, with_struct}
+use Rattle.ck_prog.specs.Tags.{Around, nothing_around, parameter_around, member_around, struct_of_body}
+use Rattle.ck_prog.specs.Tags.{mentioned_struct, tag_name, tag_token, with_struct}
 use Rattle.ck_prog.specs.Tags.{with_mention, with_member, with_completion, with_enum, with_enumerator, first_value}
 use Rattle.ck_prog.specs.Tags.{next_value, with_parameter, enumerator_value, parameter_meaning, is_new_tag}
 use Rattle.ck_prog.specs.TypeClasses.{Qualified}
@@ -81,8 +82,8 @@ after_if false p q c = AtOnce p
 after_mention : (p : Place) (around : Around) (keyword tag : Token) → ComesAfter p (with_mention p around keyword tag)
 after_mention p around keyword tag =
     after_if (is_written p keyword "struct" && is_new_tag p around tag) p
-    (with_struct p (new_struct p around keyword (Some tag)) keyword (Some tag))
-    (after_one p (text p tag) tag (StructTag (new_struct p around keyword (Some tag))) refl)
+    (with_struct p (mentioned_struct p around tag) keyword (Some tag))
+    (after_one p (text p tag) tag (StructTag (mentioned_struct p around tag)) refl)
 
 after_parameter : (p : Place) (d : Defining) (s : Specifiers) (name : Option Token) (t : Option Qualified)
     → ComesAfter p (with_parameter p d s name t)
@@ -146,11 +147,11 @@ mutual
   specifiers_declare p around (Struct keyword tag opening members closing rest) =
       let s = struct_of_body p around keyword tag in
       let q = with_struct p s keyword tag in
-      let r = after_members q s members in
+      let r = after_members q around s members in
       let t = with_completion r s keyword tag in
       and_then p q (after_specifiers t around rest)
       (after_one p (tag_name p keyword tag) (tag_token keyword tag) (StructTag s) refl)
-      (and_then q r (after_specifiers t around rest) (members_declare q s members)
+      (and_then q r (after_specifiers t around rest) (members_declare q around s members)
       (and_then r t (after_specifiers t around rest)
       (after_one r (tag_name r keyword tag) (tag_token keyword tag) (completed r s) refl)
       (specifiers_declare t around rest)))
@@ -161,20 +162,22 @@ mutual
       (and_then q r (after_specifiers r around rest) (enumerators_declare q first_value enumerators)
       (specifiers_declare r around rest))
 
-  members_declare : (p : Place) (of : StructIdentity) (members : Members) → ComesAfter p (after_members p of members)
-  members_declare p of NoMembers = AtOnce p
-  members_declare p of (trees.Member s d others semicolon rest) =
-      let q = after_specifiers p nothing_around s in
+  members_declare : (p : Place) (around : Around) (of : StructIdentity) (members : Members)
+      → ComesAfter p (after_members p around of members)
+  members_declare p around of NoMembers = AtOnce p
+  members_declare p around of (trees.Member s d others semicolon rest) =
+      let inner = member_around p around of in
+      let q = after_specifiers p inner s in
       let r = after_declarator q d in
       let base = base_type q s in
       let t = made r (derivations q d) base in
       let first = with_member r of (name_of d) t in
       let second = after_declarators first of base others in
-      let end = after_members second of rest in
-      and_then p q end (specifiers_declare p nothing_around s)
+      let end = after_members second around of rest in
+      and_then p q end (specifiers_declare p inner s)
       (and_then q r end (declarator_declares q d)
       (and_then r first end (after_name r (name_of d) (Member (next_member r of t)) refl)
-      (and_then first second end (declarators_declare first of base others) (members_declare second of rest))))
+      (and_then first second end (declarators_declare first of base others) (members_declare second around of rest))))
 
   declarators_declare : (p : Place) (of : StructIdentity) (base : Option Qualified) (ds : Declarators)
       → ComesAfter p (after_declarators p of base ds)
@@ -229,12 +232,12 @@ mutual
   params_declare defining p NoParams = AtOnce p
   params_declare defining p (VoidParams t) = AtOnce p
   params_declare defining p (Parameters s d others) =
-      let q = after_specifiers p nothing_around s in
+      let q = after_specifiers p parameter_around s in
       let r = after_declarator q d in
       let t = made r (derivations q d) (base_type q s) in
       let first = with_parameter r defining s (name_of d) t in
       let end = after_more_params defining first others in
-      and_then p q end (specifiers_declare p nothing_around s)
+      and_then p q end (specifiers_declare p parameter_around s)
       (and_then q r end (declarator_declares q d)
       (and_then r first end (after_parameter r defining s (name_of d) t) (more_params_declare defining first others)))
 
@@ -242,12 +245,12 @@ mutual
   more_params_declare defining p NoMore = AtOnce p
   more_params_declare defining p (Ellipsis comma dots) = AtOnce p
   more_params_declare defining p (More comma s d others) =
-      let q = after_specifiers p nothing_around s in
+      let q = after_specifiers p parameter_around s in
       let r = after_declarator q d in
       let t = made r (derivations q d) (base_type q s) in
       let first = with_parameter r defining s (name_of d) t in
       let end = after_more_params defining first others in
-      and_then p q end (specifiers_declare p nothing_around s)
+      and_then p q end (specifiers_declare p parameter_around s)
       (and_then q r end (declarator_declares q d)
       (and_then r first end (after_parameter r defining s (name_of d) t) (more_params_declare defining first others)))
 

@@ -147,7 +147,7 @@ struct_in_parameters = refl
 
 -- 6.9.2: complete at the end of the file
 tentative_completed : Accepted
-    (("struct s x ; static struct s y ; struct s { int a ; } ;" ∷ []) ∷ [])
+    (("struct s x ; struct s y ; struct s { int a ; } ;" ∷ []) ∷ [])
 tentative_completed = refl
 
 -- 6.9.2: complete nowhere in the file
@@ -416,13 +416,6 @@ comma_in_for = refl
 switch_on_struct : Refused U14
     (("struct s { int a ; } ; int f ( struct s x ) { switch ( @ x ) { default : return 0 ; } }" ∷ []) ∷ [])
 switch_on_struct = refl
-
--- 6.2.7: a struct without a tag in a tagged one is by its place, which two files don't share
-untagged_inside_of_two_files : Refused U10
-    (("struct s { struct { int a ; } in ; } ; extern struct s x ;" ∷ [])
-    ∷ ("struct @ s { struct { int a ; } in ; } ; struct s x ;" ∷ [])
-    ∷ [])
-untagged_inside_of_two_files = refl
 
 -- 6.7.4: an inline function with external linkage is defined like any other, in one file; a static one in each
 inline_in_two_files : Refused U9

@@ -1,9 +1,10 @@
 -- Worked initialisers: the path and the type of each value, and what is in an object, computed on the definitions.
 use Rattle.std.proofs.Common.{◌≡◌, refl}
 use Rattle.std.specs.Prelude.{ℕ, ℤ, Bool, true, false, ◌&&◌, List, [], ◌∷◌, map, Option, Some, None, pos, if◌then◌else◌}
+use Rattle.std.specs.Prelude.{codes}
 use Rattle.std.specs.Option.{is_some}
 use Rattle.std.specs.Str.{bytes_eq}
-use Rattle.ck_types.specs.Types.{CType, Pointer, Array}
+use Rattle.ck_types.specs.Types.{CType, Pointer, Array, Struct, ByTag}
 use Rattle.ck_prog.specs.Senses.{Constancy, Known}
 use Rattle.ck_prog.specs.TypeClasses.{plain, int, char}
 use Rattle.ck_prog.specs.TypedBodies as bodies
@@ -93,6 +94,17 @@ designated : placed (initialised
     "struct t { struct { int a , b ; } p [ 2 ] ; int q ; } w = { . p [ 1 ] . b = 3 , 4 , . p = { 1 } } ;")
     ≡ (0 ∷ 1 ∷ 1 ∷ [], Some int) ∷ (1 ∷ [], Some int) ∷ (0 ∷ 0 ∷ 0 ∷ [], Some int) ∷ []
 designated = refl
+
+-- a part of an incomplete type isn't gone into, and the next value is for the part after it
+incomplete_part : placed (initialised
+    "struct s { int n ; int a [ ] ; } ; struct { struct s b ; int c ; } x = { 1 , 2 } ;")
+    ≡ (0 ∷ [], Some (Struct (ByTag (codes "s")))) ∷ (1 ∷ [], Some int) ∷ []
+incomplete_part = refl
+
+complete_part : placed (initialised
+    "struct s { int n ; int a [ 1 ] ; } ; struct { struct s b ; int c ; } x = { 1 , 2 } ;")
+    ≡ (0 ∷ 0 ∷ [], Some int) ∷ (0 ∷ 1 ∷ 0 ∷ [], Some int) ∷ []
+complete_part = refl
 
 -- integers in arrays and structs, with left-out braces, designators and both: what is at each path (6.7.8). Compilers
 -- give the same.

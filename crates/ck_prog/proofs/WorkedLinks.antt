@@ -1,8 +1,7 @@
--- Worked projects on declarations of one name that differ (U10),
--- computed on the definitions.
+-- Worked projects on declarations of one name that differ (U10), computed on the definitions.
 use Rattle.std.proofs.Common.{refl}
 use Rattle.std.specs.Prelude.{[], ◌∷◌}
-use Rattle.ck_base.specs.declared.refusals.Unsupported.TheVariants.{U10}
+use Rattle.ck_base.specs.declared.refusals.Unsupported.TheVariants.{U9, U10, U14}
 use Rattle.ck_kernel.specs.KernelTable.{kernel_table}
 use Rattle.ck_prog.proofs.ProjectTexts.{Accepted, Refused}
 
@@ -143,3 +142,35 @@ long_and_int = refl
 variable_and_function : Refused U10
     (("int tick ; int main ( void ) { int @ tick ( void ) ; return 0 ; }" ∷ []) ∷ [])
 variable_and_function = refl
+
+-- an object and a function, where both are defined
+object_then_function : Refused U10 (("int f = 1 ; int @ f ( void ) { return 0 ; }" ∷ []) ∷ [])
+object_then_function = refl
+
+function_then_object : Refused U10 (("int f ( void ) { return 0 ; } int @ f = 1 ;" ∷ []) ∷ [])
+function_then_object = refl
+
+function_then_tentative : Refused U10 (("int f ( void ) { return 0 ; } int @ f ;" ∷ []) ∷ [])
+function_then_tentative = refl
+
+object_and_function_of_two_files : Refused U10
+    (("int f = 1 ;" ∷ []) ∷ ("int @ f ( void ) { return 0 ; }" ∷ []) ∷ [])
+object_and_function_of_two_files = refl
+
+function_and_tentative_of_two_files : Refused U10
+    (("int f ( void ) { return 0 ; }" ∷ []) ∷ ("int @ f ;" ∷ []) ∷ [])
+function_and_tentative_of_two_files = refl
+
+-- two objects
+object_twice : Refused U9 (("int f = 1 ; int @ f = 2 ;" ∷ []) ∷ [])
+object_twice = refl
+
+-- what is declared without a type may be a function
+without_type : Refused U14 (("typedef void @ t [ 2 ] ; extern t f ; int f ( void ) ;" ∷ []) ∷ [])
+without_type = refl
+
+without_type_later : Refused U14 (("int f ( void ) ; typedef void @ t [ 2 ] ; extern t f ;" ∷ []) ∷ [])
+without_type_later = refl
+
+with_type : Refused U10 (("extern int f ; int @ f ( void ) ;" ∷ []) ∷ [])
+with_type = refl

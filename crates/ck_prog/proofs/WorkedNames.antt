@@ -5,7 +5,7 @@ use Rattle.ck_types.specs.Types.{CType, Void, Integer, Pointer, Array, Struct, F
 use Rattle.ck_types.specs.Types.{ByTag, ByTypedef, ByPlace}
 use Rattle.ck_types.specs.declared.integer_types.IntegerType.TheVariants as integers
 use Rattle.ck_prog.specs.Declarations.{Variable, FunctionNamed, Enumerator, Entry, meant}
-use Rattle.ck_prog.specs.Linking.{joined_over}
+use Rattle.ck_prog.specs.OverFiles.{joined_over}
 use Rattle.ck_prog.specs.Senses.{Varying, Valueless, Known}
 use Rattle.ck_prog.specs.TypeClasses.{plain, unqualified, int}
 use Rattle.ck_prog.specs.declared.names.Linkage.TheVariants.{Internal, External}
@@ -82,7 +82,7 @@ joined_files = refl
 
 abbrev joined_of : Option Entry → List Entry → Option CType
 joined_of None es = None
-joined_of (Some e) es = joined_over e es
+joined_of (Some e) es = joined_over es e es
 
 joined_type : (let p = after_file (after_text "int x [ 3 ] ;").declared 1 "extern int x [ ] ;" in
     joined_of (meant p (codes "x")) p.declared) ≡ Some (Array plain int (Some 3))

@@ -36,3 +36,13 @@ slot_by_definition = refl
 -- the prototype means that slot
 slot_by_prototype : start_of (slot_meant (earliest (λ e. bytes_eq e.name (codes "get")) all)) ≡ Some 44
 slot_by_prototype = refl
+
+-- a struct without a tag in the body of another has its members once, also where two files have the header
+abbrev header_files : List File
+header_files =
+    ("struct s { struct { void ( * cb ) ( void ) ; } in ; } ;" ∷ [])
+    ∷ ("struct s { struct { void ( * cb ) ( void ) ; } in ; } ;" ∷ [])
+    ∷ []
+
+member_slots : map (λ s. s.at.span.file) (slots (all_of (read_from 0 header_files))) ≡ 0 ∷ []
+member_slots = refl

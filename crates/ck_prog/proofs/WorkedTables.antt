@@ -1,5 +1,5 @@
 -- Worked projects: arrays of function pointers in initialisers.
-use Rattle.std.proofs.Common.{◌≡◌, refl}
+use Rattle.std.proofs.Common.{refl}
 use Rattle.std.specs.Prelude.{[], ◌∷◌}
 use Rattle.ck_base.specs.declared.refusals.Unsupported.TheVariants.{U16}
 use Rattle.ck_kernel.specs.KernelTable.{kernel_table}

@@ -233,3 +233,19 @@ void_operand = refl
 array_of_undeclared_in_a_sum : Refused U11
     (("int a [ @ 1 + n ] ; int main ( void ) { return a [ 0 ] ; }" ∷ []) ∷ [])
 array_of_undeclared_in_a_sum = refl
+
+-- 6.3.2.1: a name of type void is no lvalue; of another incomplete type it is one
+address_of_void : Refused U14 (("extern void v ; void f ( void ) { @ & v ; }" ∷ []) ∷ [])
+address_of_void = refl
+
+-- and its value is no constant
+value_of_void : Refused U11 (("extern void v ; int n = @ v ;" ∷ []) ∷ [])
+value_of_void = refl
+
+address_of_const_void : Accepted
+    (("extern const void v ; const void * f ( void ) { return & v ; }" ∷ []) ∷ [])
+address_of_const_void = refl
+
+address_of_incomplete : Accepted
+    (("extern struct s v ; struct s * f ( void ) { return & v ; }" ∷ []) ∷ [])
+address_of_incomplete = refl

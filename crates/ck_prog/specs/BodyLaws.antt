@@ -1,8 +1,10 @@
--- Laws of initialisers, declarations, statements, files and refusals.
-use Rattle.std.specs.Prelude.{◌≡◌, false, All, List, [], Contains, IfNone, Some}
+-- Laws of initialisers, declarations, statements, files, types over files and refusals.
+use Rattle.std.specs.Prelude.{◌≡◌, true, false, All, List, [], Contains, IfNone, Some}
 use Rattle.ck_grammar.specs.Statements.{Init, Declaration, Statement, BlockItems, External}
-use Rattle.ck_prog.specs.Declarations.{Place}
+use Rattle.ck_types.specs.Types.{CType, compatible}
+use Rattle.ck_prog.specs.Declarations.{Entry, Place}
 use Rattle.ck_prog.specs.Growing.{ComesAfter}
+use Rattle.ck_prog.specs.OverFiles.{compatible_over_files}
 use Rattle.ck_prog.specs.Refused.{RefusedAt, comes_before, first_refused}
 use Rattle.ck_prog.specs.TypedDeclarations.{after_declaration}
 use Rattle.ck_prog.specs.TypedFiles.{after_external, after_externals}
@@ -17,6 +19,11 @@ pub record BodiesDeclare : Type 0 where
   pub items : (p : Place) (is : BlockItems) → ComesAfter p (after_items p is)
   pub external : (p : Place) (x : External) → ComesAfter p (after_external p x)
   pub externals : (p : Place) (xs : List External) → ComesAfter p (after_externals p xs)
+
+-- 6.2.7: types that are compatible in a file are so over files, whatever is declared
+abbrev pub StaysCompatible : Type 0
+StaysCompatible =
+    (all : List Entry) (t u : CType) → compatible t u ≡ true → compatible_over_files all t u ≡ true
 
 -- one of these is told, and none of them comes before it
 pub record IsFirst (rs : List RefusedAt) (r : RefusedAt) : Type 0 where

@@ -21,7 +21,8 @@ use Rattle.ck_prog.specs.Sights.{LabelOfSwitch, CaseLabel, DefaultLabel, is_stat
 use Rattle.ck_prog.specs.TypeClasses.{Qualified, is_integer, is_scalar, is_void}
 use Rattle.ck_prog.specs.TypedBodies.{InitialiserFacts, DeclaredFacts, TypedInitialiser, Value, Braces}
 use Rattle.ck_prog.specs.TypedTrees.{Facts, DeclaratorFacts, Owner, OfMember, OfParameter}
-use Rattle.ck_prog.specs.declared.names.Defining.TheVariants.{Defines}
+use Rattle.ck_prog.specs.declared.names.Defining.TheVariants.{Tentative, Defines}
+use Rattle.ck_prog.specs.declared.names.Linkage.TheVariants.{Internal}
 
 -- types (6.7.2, 6.7.5) -----------------------------------------------------------------------------------------------
 
@@ -102,14 +103,17 @@ abbrev pub is_open_array : Option Qualified → Bool
 is_open_array None = false
 is_open_array (Some t) = is_open t.type
 
--- U11: an array that its initialiser doesn't size, or makes too large
+-- U11: an array that its initialiser doesn't size, or makes too large; 6.9.2: of a `static` one also a tentative
+-- definition
 abbrev pub is_unsized : Meaning → Bool
 is_unsized (Variable t l Defines s) = is_open_array t
+is_unsized (Variable t Internal Tentative s) = is_open_array t
 is_unsized _ = false
 
--- U14: a definition of an object of an incomplete type
+-- U14: a definition of an object of an incomplete type; 6.9.2: of a `static` one also a tentative definition
 abbrev pub is_incomplete_object : DeclaredFacts → Meaning → Bool
 is_incomplete_object f (Variable t l Defines s) = is_some t && not f.complete
+is_incomplete_object f (Variable t Internal Tentative s) = is_some t && not f.complete
 is_incomplete_object f _ = false
 
 -- U14, 6.7.8: an initialiser of a name of block scope with linkage

@@ -5,11 +5,14 @@ use Rattle.std.specs.Prelude.{Option, Some, None, if◌then◌else◌}
 use Rattle.std.specs.Option.{is_none}
 use Rattle.ck_base.specs.declared.tokens.Token.{Token}
 use Rattle.ck_graph.specs.declared.points.ActName.{ActName}
+use Rattle.ck_types.specs.Types.{CType, Pointer}
 use Rattle.ck_prog.specs.Acts.{Project, act_of}
-use Rattle.ck_prog.specs.Declarations.{Entry}
+use Rattle.ck_prog.specs.Declarations.{Entry, Meaning, FunctionNamed}
 use Rattle.ck_prog.specs.Linking.{are_one}
+use Rattle.ck_prog.specs.OverFiles.{compatible_over_files}
 use Rattle.ck_prog.specs.Paths as part
 use Rattle.ck_prog.specs.Paths.{Path, below}
+use Rattle.ck_prog.specs.Senses.{value_type}
 use Rattle.ck_prog.specs.TypedBodies as bodies
 use Rattle.ck_prog.specs.TypedBodies.{TypedInitialiser, TypedInitialisers, TypedDeclarators, TypedDeclaration}
 use Rattle.ck_prog.specs.TypedBodies.{TypedStart}
@@ -187,6 +190,15 @@ abbrev pub function_number : List TypedFunction → Entry → Option ℕ
 function_number functions e = position (λ f. are_one e f.declared.entry) functions
 
 -- calls --------------------------------------------------------------------------------------------------------------
+
+-- 6.5.2.2: a call through an expression may call a function that has the type of what is called; the two may be of
+-- different files, where `all` are the declarations of the project
+abbrev pub has_type_called : List Entry → Option CType → Meaning → Bool
+has_type_called all (Some (Pointer q t)) (FunctionNamed (Some u) l d) = compatible_over_files all t u
+has_type_called all _ _ = false
+
+abbrev pub may_call : List Entry → Typed → Entry → Bool
+may_call all called e = has_type_called all (value_type (facts called).sense) e.meaning
 
 pub data CallKind : Type 0 where
   -- a kernel call, or a function that the settings name

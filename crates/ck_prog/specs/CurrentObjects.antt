@@ -1,17 +1,17 @@
 -- The object that an initialiser in braces is for (C99 6.7.8). Where braces are left out, the parts of a part come
 -- next, so what is open is a list, the innermost first, each with the number of the part that is next.
 use Rattle.std.specs.Prelude.{ℕ, suc, ◌-◌, ◌==◌, Bool, true, false, ◌&&◌, not, nat_lt, List, [], ◌∷◌, ◌++◌}
-use Rattle.std.specs.Prelude.{reverse, position, Option, Some, None, if◌then◌else◌, pos}
+use Rattle.std.specs.Prelude.{position, Option, Some, None, if◌then◌else◌, pos}
 use Rattle.std.specs.Option.{is_some}
 use Rattle.std.specs.Str.{bytes_eq}
 use Rattle.ck_grammar.specs.Statements.{Designators, Equals, DotName, AtIndex}
 use Rattle.ck_grammar.specs.Trees.{Expr, Strings}
-use Rattle.ck_types.specs.Types.{StructIdentity, CType, Integer, Array, Struct, same_struct}
+use Rattle.ck_types.specs.Types.{CType, Integer, Array, Struct}
 use Rattle.ck_types.specs.declared.integer_types.IntegerType.TheVariants.{Char, SignedChar}
-use Rattle.ck_prog.specs.Declarations.{MemberOf, Meaning, Member, StructTag, Entry, Place, text}
+use Rattle.ck_prog.specs.Declarations.{MemberOf, Meaning, Member, Entry, Place, text}
 use Rattle.ck_prog.specs.Linking.{unqualified_type}
 use Rattle.ck_prog.specs.Senses.{Constancy, Known}
-use Rattle.ck_prog.specs.Sizes.{is_member, most_elements}
+use Rattle.ck_prog.specs.Sizes.{is_complete_type, members_of, most_elements}
 use Rattle.ck_prog.specs.TypeClasses.{is_same_struct}
 use Rattle.ck_prog.specs.Typing.{sense, after}
 
@@ -35,25 +35,6 @@ abbrev pub whole_object : Option CType → Object
 whole_object t = record { path = []; type = t; member = None }
 
 -- parts --------------------------------------------------------------------------------------------------------------
-
-abbrev pub is_tag_of : StructIdentity → Meaning → Bool
-is_tag_of s (StructTag t) = same_struct s t
-is_tag_of s m = false
-
--- the members after the latest tag of a struct, the latest first
-abbrev pub members_down : ℕ → StructIdentity → List Entry → List Entry
-members_down file s [] = []
-members_down file s (e ∷ es) =
-    if e.file == file && is_tag_of s e.meaning then []
-    else if e.file == file && is_member s e.meaning then e ∷ members_down file s es
-    else members_down file s es
-
--- 6.7.2.1: the members of a struct that a file knows, in order
-abbrev pub members_in : ℕ → StructIdentity → List Entry → List Entry
-members_in file s declared = reverse (members_down file s declared)
-
-abbrev pub members_of : Place → StructIdentity → List Entry
-members_of p s = members_in p.file s p.declared
 
 abbrev pub part_as : Object → ℕ → Option CType → Option MemberOf → Option Object
 part_as o k t m = Some (record { path = o.path ++ (k ∷ []); type = t; member = m })
@@ -126,9 +107,10 @@ is_for_whole string value (Some (Array q t n)) = string && is_character_type t
 is_for_whole string value (Some (Struct s)) = is_struct_of (Struct s) value
 is_for_whole string value _ = true
 
-abbrev pub is_for_part : Bool → Option CType → Option Object → Bool
-is_for_part string value None = false
-is_for_part string value (Some o) = not (is_for_whole string value o.type)
+-- an object of an incomplete type isn't gone into
+abbrev pub is_for_part : Place → Bool → Option CType → Option Object → Bool
+is_for_part p string value None = false
+is_for_part p string value (Some o) = is_complete_type p o.type && not (is_for_whole string value o.type)
 
 abbrev pub opened : Option Object → List Open → List Open
 opened None os = os
@@ -139,7 +121,9 @@ opened (Some o) os = PartsOf o 0 ∷ os
 abbrev pub entered : List ℕ → Place → Bool → Option CType → List Open → List Open
 entered [] p string value os = os
 entered (b ∷ bs) p string value os =
-    if is_for_part string value (next_object p os) then entered bs p string value (opened (next_object p os) os) else os
+    if is_for_part p string value (next_object p os)
+    then entered bs p string value (opened (next_object p os) os)
+    else os
 
 -- the object of an expression, among what is open
 abbrev pub down_to : Place → Expr → List Open → List Open

@@ -11,14 +11,14 @@ use Rattle.ck_kernel.specs.declared.entries.EntrySink.TheVariants.{Absent, Threa
 use Rattle.ck_types.specs.Types.{StructIdentity, CType, Parameters, Void, Pointer, Array, Struct, Function}
 use Rattle.ck_types.specs.Types.{NoParameters}
 use Rattle.ck_types.specs.Types.{Parameter, ByTag, ByTypedef, compatible, same_qualifiers, same_struct, same_truth}
-use Rattle.ck_prog.specs.CurrentObjects.{is_tag_of, members_in}
 use Rattle.ck_prog.specs.Declarations.{Entry, Meaning, Variable, FunctionNamed, TypeNamed, Enumerator, EnumTag}
 use Rattle.ck_prog.specs.Declarations.{StructTag}
 use Rattle.ck_prog.specs.Declarations.{Member, Completed, Label, Place, is_ordinary, is_tag}
-use Rattle.ck_prog.specs.Linking.{is_linked, is_external, linkage_of, are_one, type_of, joined_over}
+use Rattle.ck_prog.specs.Linking.{is_linked, is_external, linkage_of, are_one, type_of}
+use Rattle.ck_prog.specs.OverFiles.{compatible_over_files, given_over_files, joined_in_file, joined_over}
 use Rattle.ck_prog.specs.Projects.{Told, same_token, beside, of_one_function, defines, is_tentative, may_define}
 use Rattle.ck_prog.specs.Projects.{kernel_call}
-use Rattle.ck_prog.specs.Sizes.{is_complete, is_member}
+use Rattle.ck_prog.specs.Sizes.{is_complete, is_member, is_tag_of, members_in, completes}
 use Rattle.ck_prog.specs.TypeClasses.{Qualified, plain, is_integer}
 use Rattle.ck_prog.specs.declared.names.Defining.TheVariants.{Tentative}
 
@@ -38,22 +38,31 @@ declared_twice e before =
     && passes (λ d. not (is_linked (linkage_of e.meaning) && is_linked (linkage_of d.meaning)))
     (beside e (λ d. is_ordinary d.meaning && in_one_scope e d) before)
 
+-- both an object or both a function; an object for a function is U10
+abbrev pub are_of_one_kind : Meaning → Meaning → Bool
+are_of_one_kind (Variable t l d s) (Variable u m e r) = true
+are_of_one_kind (FunctionNamed t l d) (FunctionNamed u m e) = true
+are_of_one_kind _ _ = false
+
+abbrev pub is_one_object : Entry → Entry → Bool
+is_one_object e d = are_one e d && are_of_one_kind e.meaning d.meaning
+
 -- 6.9: a function or an object is defined once in a file, and one with external linkage once in a project
 abbrev pub is_defined_by : Entry → Entry → Bool
-is_defined_by e d = are_one e d && (if e.file == d.file then defines d.meaning else may_define d.meaning)
+is_defined_by e d = is_one_object e d && (if e.file == d.file then defines d.meaning else may_define d.meaning)
 
 -- 6.9.2: tentative definitions are a definition of their file where it has no other; the first one counts
 abbrev pub is_only_tentative : Told → Entry → List Entry → Bool
 is_only_tentative k e before =
     is_tentative e.meaning
-    && not (list_any (λ d. are_one e d && d.file == e.file && is_tentative d.meaning) before)
-    && not (list_any (λ d. are_one e d && d.file == e.file && defines d.meaning) k.project.all)
+    && not (list_any (λ d. is_one_object e d && d.file == e.file && is_tentative d.meaning) before)
+    && not (list_any (λ d. is_one_object e d && d.file == e.file && defines d.meaning) k.project.all)
 
 abbrev pub defined_twice : Told → Entry → List Entry → Bool
 defined_twice k e before =
     (defines e.meaning && is_some (beside e (is_defined_by e) before))
     || (is_only_tentative k e before
-    && list_any (λ d. are_one e d && not (d.file == e.file) && may_define d.meaning) before)
+    && list_any (λ d. is_one_object e d && not (d.file == e.file) && may_define d.meaning) before)
 
 -- 6.7.2.1: two members of one struct
 abbrev pub member_twice : Entry → Meaning → List Entry → Bool
@@ -62,10 +71,6 @@ member_twice e (Member m) before =
 member_twice e _ before = false
 
 -- 6.7.2.3: two bodies of a tag in one scope, or bodies of both kinds
-abbrev pub completes_struct : StructIdentity → Meaning → Bool
-completes_struct s (Completed t l c) = same_struct s t
-completes_struct s _ = false
-
 abbrev pub is_enum_tag : Meaning → Bool
 is_enum_tag EnumTag = true
 is_enum_tag _ = false
@@ -73,13 +78,13 @@ is_enum_tag _ = false
 -- a struct's tag that has a body there, which completes it, maybe later
 abbrev pub begins_body : Told → StructIdentity → Entry → Bool
 begins_body k s e =
-    is_tag_of s e.meaning && list_any (λ d. same_token d.at e.at && completes_struct s d.meaning) k.project.all
+    is_tag_of s e.meaning && list_any (λ d. same_token d.at e.at && completes s d.meaning) k.project.all
 
 abbrev pub body_twice : Told → Entry → Meaning → List Entry → Bool
 body_twice k e EnumTag before = is_some (beside e (λ d. is_tag d.meaning && in_one_scope e d) before)
 body_twice k e (StructTag s) before =
     passes (λ d. is_enum_tag d.meaning) (beside e (λ d. is_tag d.meaning && in_one_scope e d) before)
-    || is_some (beside e (λ d. d.file == e.file && begins_body k s d) before)
+    || (begins_body k s e && is_some (beside e (λ d. d.file == e.file && begins_body k s d) before))
 body_twice k e _ before = false
 
 -- 6.8.1: label names are unique in a function
@@ -106,28 +111,30 @@ abbrev pub are_alike : Option CType → Option CType → Bool
 are_alike (Some t) (Some u) = compatible t u
 are_alike _ _ = true
 
-abbrev pub are_alike_qualified : Option Qualified → Option Qualified → Bool
-are_alike_qualified (Some p) (Some q) = same_qualifiers p.qualifiers q.qualifiers && compatible p.type q.type
-are_alike_qualified _ _ = true
-
 abbrev pub same_qualifiers_of : Option Qualified → Option Qualified → Bool
 same_qualifiers_of (Some p) (Some q) = same_qualifiers p.qualifiers q.qualifiers
 same_qualifiers_of _ _ = true
 
--- 6.2.2, 6.2.7: both an object or both a function, with one linkage and the same qualifiers
+-- 6.2.2, 6.2.7: both an object or both a function, with one linkage and the same qualifiers; what is declared without a
+-- type may be either
 abbrev pub agree : Meaning → Meaning → Bool
+agree (Variable None l d s) m = true
+agree m (Variable None l d s) = true
 agree (Variable t l d s) (Variable u m e r) =
     same_truth (is_external l) (is_external m) && same_qualifiers_of t u
 agree (FunctionNamed t l d) (FunctionNamed u m e) = same_truth (is_external l) (is_external m)
 agree _ _ = false
 
--- the latest declaration of a thing, and the type that all those before give it
-abbrev pub differs : Entry → List Entry → Bool
-differs e before =
+-- beside the latest declaration of a thing, the type that those before in its file give it, and the one that all before
+-- give it, over files
+abbrev pub differs : Told → Entry → List Entry → Bool
+differs k e before =
     passes (λ d. not (agree e.meaning d.meaning)) (beside e (are_one e) before)
-    || not (are_alike (type_of e.meaning) (joined_over e before))
+    || not (are_alike (type_of e.meaning) (joined_in_file e before))
+    || not (are_alike (given_over_files k.project.all e) (joined_over k.project.all e before))
 
--- kernel calls: as many parameters as the table says, and the parameter that becomes a thread or timer function
+-- kernel calls: as many parameters as the table says, and the parameter that becomes a thread or timer function. Calls
+-- are typed by this prototype, as all are.
 abbrev pub count : Parameters → ℕ
 count NoParameters = 0
 count (Parameter t ps) = suc (count ps)
@@ -164,6 +171,7 @@ is_of_call c _ = false
 abbrev pub is_meant_as_call : KernelCall → Meaning → Bool
 is_meant_as_call c (FunctionNamed None l d) = true
 is_meant_as_call c (FunctionNamed (Some t) l d) = is_of_call c t
+is_meant_as_call c (Variable None l d s) = true
 is_meant_as_call c _ = false
 
 abbrev pub is_no_call : Option KernelCall → Meaning → Bool
@@ -176,31 +184,38 @@ abbrev pub is_of_type : (CType → Bool) → Option Qualified → Bool
 is_of_type test None = true
 is_of_type test (Some t) = test t.type
 
--- it is named by this text as its tag
-abbrev pub is_tagged : StructIdentity → List ℕ → Bool
-is_tagged (ByTag tag) name = bytes_eq tag name
-is_tagged _ name = false
+-- it is compared at its body: else at its typedef name
+abbrev pub is_compared_at_body : StructIdentity → Bool
+is_compared_at_body (ByTypedef name) = false
+is_compared_at_body s = true
 
 -- 6.2.7: those of two files have the same members in order, with compatible types
 abbrev pub member_type : Meaning → Option Qualified
 member_type (Member m) = m.type
 member_type _ = None
 
-abbrev pub same_members : List Entry → List Entry → Bool
-same_members [] [] = true
-same_members (e ∷ es) (d ∷ ds) =
-    bytes_eq e.name d.name && are_alike_qualified (member_type e.meaning) (member_type d.meaning) && same_members es ds
-same_members _ _ = false
+abbrev pub are_alike_qualified : List Entry → Option Qualified → Option Qualified → Bool
+are_alike_qualified all (Some p) (Some q) =
+    same_qualifiers p.qualifiers q.qualifiers && compatible_over_files all p.type q.type
+are_alike_qualified all _ _ = true
+
+abbrev pub same_members : List Entry → List Entry → List Entry → Bool
+same_members all [] [] = true
+same_members all (e ∷ es) (d ∷ ds) =
+    bytes_eq e.name d.name
+    && are_alike_qualified all (member_type e.meaning) (member_type d.meaning)
+    && same_members all es ds
+same_members all _ _ = false
 
 abbrev pub is_known_in : ℕ → StructIdentity → List Entry → Bool
-is_known_in file s before = list_any (λ d. d.file == file && completes_struct s d.meaning) before
+is_known_in file s before = list_any (λ d. d.file == file && completes s d.meaning) before
 
 -- beside each of the files before that know the struct's members, since compatibility isn't transitive
-abbrev pub has_other_members : ℕ → StructIdentity → List Entry → Bool
-has_other_members file s before =
+abbrev pub has_other_members : List Entry → ℕ → StructIdentity → List Entry → Bool
+has_other_members all file s before =
     list_any (λ d. not (d.file == file)
-    && completes_struct s d.meaning
-    && not (same_members (members_in file s before) (members_in d.file s before)))
+    && completes s d.meaning
+    && not (same_members all (members_in file s before) (members_in d.file s before)))
     before
 
 -- the members of a thread's descriptor that a create call reads
@@ -213,20 +228,21 @@ is_no_descriptor members =
     || not (has_member (codes "arg") (compatible (Pointer plain Void)) members)
     || not (has_member (codes "prio") is_integer members)
 
--- a struct that a tag, or else its first typedef name, names, whatever is derived from it there
-abbrev pub is_other_struct : Entry → Meaning → List Entry → Bool
-is_other_struct e (Completed s l c) before =
-    (is_tagged s e.name && has_other_members e.file s before)
+-- a struct that a tag, or else its first typedef name, names, whatever is derived from it there, or one without both in
+-- the body of another
+abbrev pub is_other_struct : Told → Entry → Meaning → List Entry → Bool
+is_other_struct k e (Completed s l c) before =
+    (is_compared_at_body s && has_other_members k.project.all e.file s before)
     || (same_struct s descriptor && is_no_descriptor (members_in e.file s before))
-is_other_struct e (TypeNamed t) before =
-    is_known_in e.file (ByTypedef e.name) before && has_other_members e.file (ByTypedef e.name) before
-is_other_struct e _ before = false
+is_other_struct k e (TypeNamed t) before =
+    is_known_in e.file (ByTypedef e.name) before && has_other_members k.project.all e.file (ByTypedef e.name) before
+is_other_struct k e _ before = false
 
-abbrev pub is_different : Entry → List Entry → Bool
-is_different e before =
-    differs e before
+abbrev pub is_different : Told → Entry → List Entry → Bool
+is_different k e before =
+    differs k e before
     || (kernel_name e.name && is_no_call (kernel_call e.name) e.meaning)
-    || is_other_struct e e.meaning before
+    || is_other_struct k e e.meaning before
 
 -- U12: kernel name defined -------------------------------------------------------------------------------------------
 

@@ -3,6 +3,7 @@ use Rattle.std.specs.Prelude.{ℕ, Bool, true, false, List, [], ◌∷◌, Optio
 use Rattle.ck_base.specs.declared.tokens.Token.{Token}
 use Rattle.ck_grammar.specs.Trees.{Specifiers, Declarator, Dims, Params, Abstract, Named, Nested, NoDims, Function}
 use Rattle.ck_grammar.specs.Trees.{NoParams}
+use Rattle.ck_types.specs.Types.{StructIdentity, ByTypedef}
 use Rattle.ck_prog.specs.BaseTypes.{base_type}
 use Rattle.ck_prog.specs.Declarations.{Place, text, declaring, inside}
 use Rattle.ck_prog.specs.Derivations.{Derivation, FunctionOf, made}
@@ -19,11 +20,16 @@ text_of_name p (Some name) = Some (text p name)
 
 -- 6.7.2.3: specifiers without declarators
 abbrev pub alone : Around
-alone = record { alone = true; typedef = None }
+alone = record nothing_around { alone = true }
 
--- around specifiers before a first declarator: after `typedef` it declares their first typedef name
+-- around specifiers before a first declarator: after `typedef` it declares their first typedef name, which names a
+-- struct without a tag
+abbrev pub by_typedef : Option (List ℕ) → Option StructIdentity
+by_typedef None = None
+by_typedef (Some name) = Some (ByTypedef name)
+
 abbrev pub around_by : Place → StorageClass → Declarator → Around
-around_by p TypedefClass d = record { alone = false; typedef = text_of_name p (name_of d) }
+around_by p TypedefClass d = record nothing_around { untagged = by_typedef (text_of_name p (name_of d)) }
 around_by p class d = nothing_around
 
 abbrev pub after_first_specifiers : Place → Specifiers → Declarator → Place

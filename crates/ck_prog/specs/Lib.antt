@@ -14,7 +14,6 @@ pub mod BaseTypes
 pub mod Derivations
 -- Senses, by the sections of 6.5
 pub mod Operators
-pub mod Literals
 pub mod Senses
 pub mod ConstantExpressions
 pub mod BinarySenses
@@ -33,6 +32,7 @@ pub mod TypedFiles
 -- What is refused, and where
 pub mod Sights
 pub mod Projects
+pub mod OverFiles
 pub mod ExpressionRefusals
 pub mod BodyRefusals
 pub mod DeclarationRefusals

@@ -1,6 +1,6 @@
 -- What the declaration of an object, a function or a typedef name declares: linkage (C99 6.2.2), tentative definitions
 -- (6.9.2), storage (6.2.4) and the composite type (6.2.7).
-use Rattle.std.specs.Prelude.{ℕ, Bool, true, false, ◌&&◌, ◌||◌, ◌==◌, List, [], ◌∷◌, codes, Option, Some, None}
+use Rattle.std.specs.Prelude.{ℕ, Bool, true, false, ◌&&◌, ◌||◌, ◌==◌, List, [], codes, Option, Some, None}
 use Rattle.std.specs.Prelude.{if◌then◌else◌, nat_le}
 use Rattle.std.specs.Str.{bytes_eq}
 use Rattle.ck_base.specs.declared.tokens.Token.{Token}
@@ -127,16 +127,6 @@ are_one e d =
     bytes_eq e.name d.name
     && ((is_external (linkage_of e.meaning) && is_external (linkage_of d.meaning))
     || (is_linked (linkage_of e.meaning) && is_linked (linkage_of d.meaning) && e.file == d.file))
-
-abbrev pub joined_option : Option CType → Option CType → Option CType
-joined_option before None = before
-joined_option before (Some t) = Some (joined_with before t)
-
--- 6.2.7: the type that all declarations of a thing in all files give it together, the earliest of these first
-abbrev pub joined_over : Entry → List Entry → Option CType
-joined_over e [] = None
-joined_over e (d ∷ ds) =
-    if are_one e d then joined_option (joined_over e ds) (type_of d.meaning) else joined_over e ds
 
 -- declarations --------------------------------------------------------------------------------------------------------
 

@@ -111,7 +111,7 @@ sight_spot number (Returned result f) = f.first
 
 abbrev pub entry_test : Told → Unsupported → Entry → List Entry → Bool
 entry_test k U9 e before = is_twice k e before
-entry_test k U10 e before = is_different e before
+entry_test k U10 e before = is_different k e before
 entry_test k U12 e before = is_kernel_defined e
 entry_test k U14 e before = is_never_complete k e e.meaning
 entry_test k number e before = false

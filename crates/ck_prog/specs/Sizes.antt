@@ -1,12 +1,12 @@
 -- The size and the alignment of a type at a place, none where the type is incomplete there (C99 6.2.5, 6.5.3.4); the
 -- members of structs, which are aligned naturally (6.7.2.1).
-use Rattle.std.specs.Prelude.{ℕ, ◌+◌, ◌-◌, ◌*◌, ◌/◌, ◌==◌, max, Bool, false, ◌&&◌, ◌||◌, not, nat_le, List}
-use Rattle.std.specs.Prelude.{Option, Some, None, if◌then◌else◌}
+use Rattle.std.specs.Prelude.{ℕ, ◌+◌, ◌-◌, ◌*◌, ◌/◌, ◌==◌, max, Bool, true, false, ◌&&◌, ◌||◌, not, nat_le, List}
+use Rattle.std.specs.Prelude.{[], ◌∷◌, reverse, Option, Some, None, if◌then◌else◌}
 use Rattle.std.specs.Option.{is_some}
 use Rattle.std.specs.Str.{bytes_eq}
 use Rattle.ck_types.specs.IntegerTypes.{size}
 use Rattle.ck_types.specs.Types.{StructIdentity, CType, Void, Integer, Pointer, Array, Struct, Function, same_struct}
-use Rattle.ck_prog.specs.Declarations.{Layout, MemberOf, Meaning, StructTag, Member, Completed, Place}
+use Rattle.ck_prog.specs.Declarations.{Layout, MemberOf, Meaning, StructTag, Member, Completed, Entry, Place}
 use Rattle.ck_prog.specs.Declarations.{latest, meaning_of}
 use Rattle.ck_prog.specs.TypeClasses.{Qualified}
 
@@ -67,6 +67,11 @@ layout p (Function q t ps more) = None
 abbrev pub is_complete : Place → CType → Bool
 is_complete p t = is_some (layout p t)
 
+-- where the type is missing nothing more is refused
+abbrev pub is_complete_type : Place → Option CType → Bool
+is_complete_type p None = true
+is_complete_type p (Some t) = is_complete p t
+
 -- 6.3.2.1: a part of an object of the type is const
 abbrev pub has_constant : Place → CType → Bool
 has_constant p (Array q t n) = q.constant || has_constant p t
@@ -79,10 +84,28 @@ abbrev pub is_member : StructIdentity → Meaning → Bool
 is_member s (Member m) = same_struct s m.of
 is_member s _ = false
 
+abbrev pub is_tag_of : StructIdentity → Meaning → Bool
+is_tag_of s (StructTag t) = same_struct s t
+is_tag_of s m = false
+
+-- the members after the latest tag of a struct, the latest first
+abbrev pub members_down : ℕ → StructIdentity → List Entry → List Entry
+members_down file s [] = []
+members_down file s (e ∷ es) =
+    if e.file == file && is_tag_of s e.meaning then []
+    else if e.file == file && is_member s e.meaning then e ∷ members_down file s es
+    else members_down file s es
+
+-- 6.7.2.1: the members of a struct that a file knows, in order
+abbrev pub members_in : ℕ → StructIdentity → List Entry → List Entry
+members_in file s declared = reverse (members_down file s declared)
+
+abbrev pub members_of : Place → StructIdentity → List Entry
+members_of p s = members_in p.file s p.declared
+
 -- a tag stands before the members of its body
 abbrev pub is_in_body : StructIdentity → Meaning → Bool
-is_in_body s (StructTag t) = same_struct s t
-is_in_body s m = is_member s m
+is_in_body s m = is_tag_of s m || is_member s m
 
 -- the last member of the body that is open, or its tag. The parameters of a function that is defined are declared
 -- twice, and with them the bodies in them.

@@ -1,31 +1,41 @@
 -- Structs by identity, tags, enumeration constants and parameters (C99 6.7.2.1 to 6.7.2.3, 6.7.5.3): what they declare.
-use Rattle.std.specs.Prelude.{ℕ, Bool, true, false, ◌&&◌, not, List, [], ◌∷◌, Option, Some, None, if◌then◌else◌, ℤ, pos}
+use Rattle.std.specs.Prelude.{ℕ, Bool, true, false, ◌&&◌, not, List, [], ◌∷◌, length, Option, Some, None}
+use Rattle.std.specs.Prelude.{if◌then◌else◌, ℤ, pos}
 use Rattle.std.specs.Option.{is_some}
 use lib.IntN.{◌+ℤ◌}
 use Rattle.ck_base.specs.declared.tokens.Token.{Token}
 use Rattle.ck_grammar.specs.Trees.{Specifiers}
 use Rattle.ck_types.specs.IntegerTypes.{represents}
-use Rattle.ck_types.specs.Types.{StructIdentity, ByTag, ByTypedef, ByPlace, Struct}
+use Rattle.ck_types.specs.Types.{StructIdentity, ByTag, ByPlace, ByMember, ByParameter, Struct}
 use Rattle.ck_types.specs.declared.integer_types.IntegerType.TheVariants.{Int}
 use Rattle.ck_prog.specs.Declarations.{Meaning, Variable, StructTag, EnumTag, Enumerator, Member, Place, text}
 use Rattle.ck_prog.specs.Declarations.{is_written, is_file_scope, meant_tag, tag_of_scope, declaring, declaring_name}
 use Rattle.ck_prog.specs.Declarations.{meaning_of}
 use Rattle.ck_prog.specs.Linking.{storage, storage_class}
 use Rattle.ck_prog.specs.Senses.{Constancy, Valueless, Known}
-use Rattle.ck_prog.specs.Sizes.{completed, next_member}
+use Rattle.ck_prog.specs.Sizes.{completed, next_member, members_of}
 use Rattle.ck_prog.specs.TypeClasses.{Qualified, unqualified, int, as_value, is_void}
 use Rattle.ck_prog.specs.declared.names.Linkage.TheVariants.{NoLinkage}
 use Rattle.ck_prog.specs.declared.names.Defining.{Defining}
 use Rattle.ck_prog.specs.declared.names.Storage.{Storage}
 
--- What is around specifiers that matters to a tag in them: whether they are a whole declaration, as in `struct s;`
--- (6.7.2.3), and the first typedef name that their declaration declares.
+-- What is around specifiers that matters to a struct in them: whether they are a whole declaration, as in `struct s;`
+-- (6.7.2.3), whether they are in a parameter list, and which struct one without a tag is there, if not by its place.
 pub record Around : Type 0 where
   pub alone : Bool
-  pub typedef : Option (List ℕ)
+  pub parameter : Bool
+  pub untagged : Option StructIdentity
 
 abbrev pub nothing_around : Around
-nothing_around = record { alone = false; typedef = None }
+nothing_around = record { alone = false; parameter = false; untagged = None }
+
+abbrev pub parameter_around : Around
+parameter_around = record nothing_around { parameter = true }
+
+-- around the specifiers of the next member of a struct, whose body is in specifiers with this around them: without a
+-- tag a struct is by the one that it is in, and by how many members are before it, in each file that has the body
+abbrev pub member_around : Place → Around → StructIdentity → Around
+member_around p around of = record around { alone = false; untagged = Some (ByMember of (length (members_of p of))) }
 
 -- 6.7.2.3 -------------------------------------------------------------------------------------------------------------
 
@@ -38,15 +48,23 @@ abbrev pub tag_token : Token → Option Token → Token
 tag_token keyword None = keyword
 tag_token keyword (Some tag) = tag
 
-abbrev pub untagged : Place → Token → Option (List ℕ) → StructIdentity
-untagged p keyword None = ByPlace p.file keyword.span.start
-untagged p keyword (Some name) = ByTypedef name
+abbrev pub or_by_place : Place → Token → Option StructIdentity → StructIdentity
+or_by_place p keyword None = ByPlace p.file keyword.span.start
+or_by_place p keyword (Some s) = s
 
--- a struct that begins here
+-- a struct of this tag: one of an inner scope is by its place
+abbrev pub tagged_struct : Place → Token → StructIdentity
+tagged_struct p tag = if is_file_scope p.scope then ByTag (text p tag) else ByPlace p.file tag.span.start
+
+-- a struct whose body begins here
 abbrev pub new_struct : Place → Around → Token → Option Token → StructIdentity
-new_struct p around keyword None = untagged p keyword around.typedef
-new_struct p around keyword (Some tag) =
-    if is_file_scope p.scope then ByTag (text p tag) else ByPlace p.file tag.span.start
+new_struct p around keyword None = or_by_place p keyword around.untagged
+new_struct p around keyword (Some tag) = tagged_struct p tag
+
+-- 6.2.1: a struct that its tag begins without a body; each parameter list has its own
+abbrev pub mentioned_struct : Place → Around → Token → StructIdentity
+mentioned_struct p around tag =
+    if around.parameter then ByParameter (text p tag) p.file tag.span.start else tagged_struct p tag
 
 abbrev pub identity_or : StructIdentity → Option Meaning → StructIdentity
 identity_or new (Some (StructTag s)) = s
@@ -69,7 +87,7 @@ is_new_tag p around tag =
 abbrev pub with_mention : Place → Around → Token → Token → Place
 with_mention p around keyword tag =
     if is_written p keyword "struct" && is_new_tag p around tag
-    then with_struct p (new_struct p around keyword (Some tag)) keyword (Some tag) else p
+    then with_struct p (mentioned_struct p around tag) keyword (Some tag) else p
 
 -- the type that `struct` or `enum` and a tag name; none where the tag is of the other kind or isn't in sight
 abbrev pub type_of_tag : Bool → Option Meaning → Option Qualified

@@ -11,7 +11,7 @@ use Rattle.ck_prog.specs.Declarations.{Entry, Meaning, Variable, Place, text, is
 use Rattle.ck_prog.specs.Declaring.{alone, around_by, after_first_specifiers, with_declared, declares_function}
 use Rattle.ck_prog.specs.Derivations.{made}
 use Rattle.ck_prog.specs.Linking.{StorageClass, storage_class, declared_as, unqualified_type, type_of}
-use Rattle.ck_prog.specs.Sizes.{layout, is_complete, is_large}
+use Rattle.ck_prog.specs.Sizes.{layout, is_complete_type, is_large}
 use Rattle.ck_prog.specs.TypeClasses.{Qualified}
 use Rattle.ck_prog.specs.TypedBodies.{DeclaredFacts, TypedDeclarators, NoDeclared, TypedDeclaration, Declaration}
 use Rattle.ck_prog.specs.TypedBodies as typed
@@ -111,10 +111,6 @@ resized_entry before p q b d (Some t) = declared_entry p q b true d (Some t)
 abbrev pub is_static_object : Meaning → Bool
 is_static_object (Variable t l d s) = is_static s
 is_static_object _ = false
-
-abbrev pub is_complete_type : Place → Option CType → Bool
-is_complete_type p None = true
-is_complete_type p (Some t) = is_complete p t
 
 abbrev pub is_large_type : Place → Option CType → Bool
 is_large_type p None = false

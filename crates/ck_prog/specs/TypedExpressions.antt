@@ -25,7 +25,8 @@ use Rattle.ck_prog.specs.PostfixSenses.{element, result, member, access}
 use Rattle.ck_prog.specs.Senses.{Sense, Constancy}
 use Rattle.ck_prog.specs.Sizes.{is_large, type_layout, padded, front_before, last_in_body}
 use Rattle.ck_prog.specs.Tags.{as_parameter}
-use Rattle.ck_prog.specs.Tags.{Around, nothing_around, struct_of_body, with_struct, with_mention, with_member}
+use Rattle.ck_prog.specs.Tags.{Around, nothing_around, parameter_around, member_around, struct_of_body, with_struct}
+use Rattle.ck_prog.specs.Tags.{with_mention, with_member}
 use Rattle.ck_prog.specs.Tags.{with_completion, with_enum, with_enumerator, first_value, next_value, with_parameter}
 use Rattle.ck_prog.specs.TypeClasses.{Qualified}
 use Rattle.ck_prog.specs.TypedTrees as typed
@@ -286,8 +287,8 @@ abbrev mutual
   in_specifiers p around (Struct keyword tag opening members closing rest) more =
       let s = struct_of_body p around keyword tag in
       let q = with_struct p s keyword tag in
-      let r = after_members q s members in
-      in_members q s opening members
+      let r = after_members q around s members in
+      in_members q around s opening members
       (StructBody keyword (whole_size r s) (in_specifiers (with_completion r s keyword tag) around rest more))
   in_specifiers p around (Enum keyword tag opening enumerators closing rest) more =
       let q = with_enum p tag in
@@ -295,19 +296,20 @@ abbrev mutual
       (in_specifiers (after_enumerators q first_value enumerators) around rest more)
 
   -- 6.7.2.1
-  pub in_members : Place → StructIdentity → Token → Members → TypeParts → TypeParts
-  in_members p of before NoMembers more = more
-  in_members p of before (trees.Member s d others semicolon rest) more =
-      let q = after_specifiers p nothing_around s in
+  pub in_members : Place → Around → StructIdentity → Token → Members → TypeParts → TypeParts
+  in_members p around of before NoMembers more = more
+  in_members p around of before (trees.Member s d others semicolon rest) more =
+      let inner = member_around p around of in
+      let q = after_specifiers p inner s in
       let r = after_declarator q d in
       let ds = derivations q d in
       let base = base_type q s in
       let first = with_member r of (name_of d) (made r ds base) in
       let first_specifier = first_of_specifiers before s in
-      in_specifiers p nothing_around s (in_declarator q r base [] d
+      in_specifiers p inner s (in_declarator q r base [] d
       (WholeDeclarator (declarator_facts OfMember r ds first_specifier d base)
       (in_declarators first of first_specifier base others
-      (in_members (after_declarators first of base others) of semicolon rest more))))
+      (in_members (after_declarators first of base others) around of semicolon rest more))))
 
   pub in_declarators : Place → StructIdentity → Token → Option Qualified → Declarators → TypeParts → TypeParts
   in_declarators p of first_specifier base NoDeclarators more = more
@@ -361,11 +363,11 @@ abbrev mutual
   in_params defining p before NoParams more = more
   in_params defining p before (VoidParams t) more = more
   in_params defining p before (Parameters s d others) more =
-      let q = after_specifiers p nothing_around s in
+      let q = after_specifiers p parameter_around s in
       let r = after_declarator q d in
       let ds = derivations q d in
       let base = base_type q s in
-      in_specifiers p nothing_around s (in_declarator q r base [] d
+      in_specifiers p parameter_around s (in_declarator q r base [] d
       (parameter_part defining r ds (first_of_specifiers before s) d base others
       (in_more_params defining (with_parameter r defining s (name_of d) (made r ds base)) others more)))
 
@@ -373,10 +375,10 @@ abbrev mutual
   in_more_params defining p NoMore more = more
   in_more_params defining p (Ellipsis comma dots) more = more
   in_more_params defining p (More comma s d others) more =
-      let q = after_specifiers p nothing_around s in
+      let q = after_specifiers p parameter_around s in
       let r = after_declarator q d in
       let ds = derivations q d in
       let base = base_type q s in
-      in_specifiers p nothing_around s (in_declarator q r base [] d
+      in_specifiers p parameter_around s (in_declarator q r base [] d
       (WholeDeclarator (declarator_facts (OfParameter defining) r ds (first_of_specifiers comma s) d base)
       (in_more_params defining (with_parameter r defining s (name_of d) (made r ds base)) others more)))

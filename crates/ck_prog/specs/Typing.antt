@@ -1,6 +1,6 @@
 -- The sense of an expression, what a declarator says of its name, and the place after each tree (C99 6.5, 6.7.2 to
 -- 6.7.6). These depend on each other: a size is an expression, `sizeof` takes a type, and a type may declare names.
-use Rattle.std.specs.Prelude.{ℕ, ◌+◌, Bool, true, false, List, [], ◌∷◌, ◌++◌, length, Option, Some, None, ℤ}
+use Rattle.std.specs.Prelude.{ℕ, ◌+◌, Bool, true, false, ◌&&◌, not, List, [], ◌∷◌, ◌++◌, length, Option, Some, None, ℤ}
 use Rattle.ck_base.specs.declared.tokens.Token.{Token}
 use Rattle.ck_base.specs.CharacterConstants.{string_values}
 use Rattle.ck_grammar.specs.Trees as trees
@@ -11,6 +11,7 @@ use Rattle.ck_grammar.specs.Trees.{CallEmpty, Call, MemberAccess, PostIncrement,
 use Rattle.ck_grammar.specs.Trees.{Struct, Enum, NoMembers, NoDeclarators, Also, Abstract, Named, Nested, NoDims, Open}
 use Rattle.ck_grammar.specs.Trees.{Sized, Function, NoParams, VoidParams, Parameters, NoMore, Ellipsis, More}
 use Rattle.ck_grammar.specs.Trees.{LastOne, LastValued, One, Valued}
+use Rattle.ck_types.specs.ConstantTypes.{constant}
 use Rattle.ck_types.specs.Types.{StructIdentity, CType, Integer, Array, NoParameters}
 use Rattle.ck_types.specs.declared.operators.IntegerValue.{IntegerValue}
 use Rattle.ck_prog.specs.AssignmentSenses.{assignment_sense, choice_sense}
@@ -19,13 +20,13 @@ use Rattle.ck_prog.specs.BinarySenses.{binary_sense}
 use Rattle.ck_prog.specs.Declarations.{Meaning, Variable, FunctionNamed, Enumerator, Place, text, is_written, meant}
 use Rattle.ck_prog.specs.Declarations.{inside, outside, meaning_of}
 use Rattle.ck_prog.specs.Derivations.{Derivation, OpenArray, SizedArray, FunctionOf, made, pointers, Signature}
-use Rattle.ck_prog.specs.Derivations.{no_parameters, with_first_type, with_next_type}
+use Rattle.ck_prog.specs.Derivations.{no_parameters, with_first_type, with_next_type, is_only_void}
 use Rattle.ck_prog.specs.Linking.{unqualified_type}
-use Rattle.ck_prog.specs.Literals.{constant}
 use Rattle.ck_prog.specs.Operators.{operator, prefix, assigning}
 use Rattle.ck_prog.specs.PostfixSenses.{element, result, access}
 use Rattle.ck_prog.specs.Senses.{Sense, Constancy, Valueless, Known, no_type, integer, pointer}
-use Rattle.ck_prog.specs.Tags.{Around, nothing_around, struct_of_body, with_struct, with_mention, with_member}
+use Rattle.ck_prog.specs.Tags.{Around, nothing_around, parameter_around, member_around, struct_of_body, with_struct}
+use Rattle.ck_prog.specs.Tags.{with_mention, with_member}
 use Rattle.ck_prog.specs.Tags.{with_completion, with_enum, with_enumerator, first_value, next_value, with_parameter}
 use Rattle.ck_prog.specs.TypeClasses.{Qualified, plain, int, char}
 use Rattle.ck_prog.specs.UnarySenses.{prefix_sense, step, size_of, cast_sense}
@@ -46,10 +47,13 @@ abbrev pub is_register : Storage → Bool
 is_register Register = true
 is_register _ = false
 
+-- 6.3.2.1: a name of type `void` designates no object
 abbrev pub object_sense : Option Qualified → Storage → Sense
 object_sense None s = no_type
 object_sense (Some t) s =
-    record (pointer t.type (is_static s)) { qualifiers = t.qualifiers; lvalue = true; register = is_register s }
+    let object = not (is_only_void (Some t)) in
+    record (pointer t.type (object && is_static s))
+    { qualifiers = t.qualifiers; lvalue = object; register = is_register s }
 
 abbrev pub function_sense : Option CType → Sense
 function_sense None = no_type
@@ -171,7 +175,7 @@ abbrev mutual
   signature p NoParams = no_parameters
   signature p (VoidParams t) = no_parameters
   signature p (Parameters s d others) =
-      let q = after_specifiers p nothing_around s in
+      let q = after_specifiers p parameter_around s in
       let r = after_declarator q d in
       let t = made r (derivations q d) (base_type q s) in
       with_first_type (name_of d) t others (more_signature (with_parameter r Declares s (name_of d) t) others)
@@ -180,7 +184,7 @@ abbrev mutual
   more_signature p NoMore = no_parameters
   more_signature p (Ellipsis comma dots) = Some (NoParameters, true)
   more_signature p (More comma s d others) =
-      let q = after_specifiers p nothing_around s in
+      let q = after_specifiers p parameter_around s in
       let r = after_declarator q d in
       let t = made r (derivations q d) (base_type q s) in
       with_next_type t (more_signature (with_parameter r Declares s (name_of d) t) others)
@@ -223,20 +227,20 @@ abbrev mutual
       after_specifiers (with_mention p around keyword tag) around rest
   after_specifiers p around (Struct keyword tag opening members closing rest) =
       let s = struct_of_body p around keyword tag in
-      let q = after_members (with_struct p s keyword tag) s members in
+      let q = after_members (with_struct p s keyword tag) around s members in
       after_specifiers (with_completion q s keyword tag) around rest
   after_specifiers p around (Enum keyword tag opening enumerators closing rest) =
       after_specifiers (after_enumerators (with_enum p tag) first_value enumerators) around rest
 
   -- 6.7.2.1: a member's name is declared after its declarator
-  pub after_members : Place → StructIdentity → Members → Place
-  after_members p of NoMembers = p
-  after_members p of (trees.Member s d others semicolon rest) =
-      let q = after_specifiers p nothing_around s in
+  pub after_members : Place → Around → StructIdentity → Members → Place
+  after_members p around of NoMembers = p
+  after_members p around of (trees.Member s d others semicolon rest) =
+      let q = after_specifiers p (member_around p around of) s in
       let r = after_declarator q d in
       let base = base_type q s in
       let first = with_member r of (name_of d) (made r (derivations q d) base) in
-      after_members (after_declarators first of base others) of rest
+      after_members (after_declarators first of base others) around of rest
 
   pub after_declarators : Place → StructIdentity → Option Qualified → Declarators → Place
   after_declarators p of base NoDeclarators = p
@@ -273,7 +277,7 @@ abbrev mutual
   after_params defining p NoParams = p
   after_params defining p (VoidParams t) = p
   after_params defining p (Parameters s d others) =
-      let q = after_specifiers p nothing_around s in
+      let q = after_specifiers p parameter_around s in
       let r = after_declarator q d in
       let t = made r (derivations q d) (base_type q s) in
       after_more_params defining (with_parameter r defining s (name_of d) t) others
@@ -282,7 +286,7 @@ abbrev mutual
   after_more_params defining p NoMore = p
   after_more_params defining p (Ellipsis comma dots) = p
   after_more_params defining p (More comma s d others) =
-      let q = after_specifiers p nothing_around s in
+      let q = after_specifiers p parameter_around s in
       let r = after_declarator q d in
       let t = made r (derivations q d) (base_type q s) in
       after_more_params defining (with_parameter r defining s (name_of d) t) others

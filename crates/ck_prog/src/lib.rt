@@ -13,7 +13,7 @@ mod laws;
 mod names;
 mod operators;
 
-pub use body_laws::{bodies_declare, calls_ascend, tells_some, tells_the_first};
+pub use body_laws::{bodies_declare, calls_ascend, stays_compatible, tells_some, tells_the_first};
 pub use laws::{
     closing_hides, declarations_stay, known_is_in_range, means_open_entry, opening_shows,
     stays_fitting, stays_orderly, trees_declare, typed_keeps_sense,

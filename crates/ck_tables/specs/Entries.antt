@@ -1,7 +1,7 @@
 -- Which declarations the rows of a project's declarations stand for, where the numbers of types, names, structs and members
 -- are read.
 use Rattle.std.specs.Prelude.{ℕ, List, Option, Some, None}
-use Rattle.ck_types.specs.Types.{CType, StructIdentity, ByTag, ByTypedef, ByPlace}
+use Rattle.ck_types.specs.Types.{CType, StructIdentity, ByTag, ByTypedef, ByPlace, ByMember, ByParameter}
 use Rattle.ck_prog.specs.Declarations as plain
 use Rattle.ck_prog.specs.Declarations.{Entry, Meaning, MemberOf}
 use Rattle.ck_prog.specs.TypeClasses.{Qualified}
@@ -22,10 +22,13 @@ pub record EntryReadings : Type 0 where
   pub struct_of : ℕ → StructIdentity
   pub member_of : ℕ → MemberOf
 
-abbrev pub plain_struct : (ℕ → List ℕ) → StructName → StructIdentity
-plain_struct name_of (structs.Tag name) = ByTag (name_of name.0)
-plain_struct name_of (structs.Typedef name) = ByTypedef (name_of name.0)
-plain_struct name_of (structs.Place file offset) = ByPlace file offset
+-- where the structs of smaller numbers are these
+abbrev pub plain_struct : (ℕ → List ℕ) → (ℕ → StructIdentity) → StructName → StructIdentity
+plain_struct name_of struct_of (structs.Tag name) = ByTag (name_of name.0)
+plain_struct name_of struct_of (structs.Typedef name) = ByTypedef (name_of name.0)
+plain_struct name_of struct_of (structs.Place file offset) = ByPlace file offset
+plain_struct name_of struct_of (structs.Member of before) = ByMember (struct_of of.0) before
+plain_struct name_of struct_of (structs.Parameter tag file offset) = ByParameter (name_of tag.0) file offset
 
 abbrev pub plain_made : (ℕ → CType) → Option QualifiedType → Option Qualified
 plain_made type_of None = None

@@ -13,6 +13,7 @@ use Rattle.ck_tables.specs.ExprTable.{no_token, parts_of, tree_at}
 use Rattle.ck_tables.specs.InitTable.{no_initialiser, init_at}
 use Rattle.ck_tables.specs.Readings.{Readings, BodyReadings}
 use Rattle.ck_tables.specs.StmtTable.{plain_declared_facts, plain_declaration, items_of, statement_at}
+use Rattle.ck_tables.specs.Tables.{tree_in}
 use Rattle.ck_tables.specs.declared.program.Body.{Body}
 use Rattle.ck_tables.specs.declared.program.External.{External}
 use Rattle.ck_tables.specs.declared.program.External.TheVariants as externals
@@ -34,7 +35,7 @@ abbrev pub name_of : Linked → ℕ → List ℕ
 name_of l i = read [] (λ n. n) l.names i
 
 abbrev pub struct_of : Linked → ℕ → StructIdentity
-struct_of l i = read (ByPlace 0 0) (plain_struct (name_of l)) l.structs.rows.items i
+struct_of l i = tree_in (ByPlace 0 0) (plain_struct (name_of l)) l.structs.rows.items i
 
 abbrev pub type_of : Linked → ℕ → CType
 type_of l i = type_at (entries_of (struct_of l) l.types) i

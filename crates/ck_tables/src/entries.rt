@@ -5,7 +5,8 @@ use ck_prog::{Defining, Linkage, Storage};
 use ck_types::{StructId, TypeId};
 use smallvec::SmallVec;
 
-/// Which struct one is over all files: by its tag, else by the first typedef name of its declaration, else by its place.
+/// Which struct one is over all files: by its tag, else by the first typedef name of its declaration, else, in the body
+/// of another, by that one, else by its place.
 #[derive(Clone, Copy)]
 pub enum StructName {
     /// by its tag
@@ -14,6 +15,10 @@ pub enum StructName {
     Typedef(NameId),
     /// by a file and an offset there
     Place { file: u32, offset: u32 },
+    /// by the struct in whose body it is, which has a smaller number, and how many members are before it there
+    Member { of: StructId, before: u32 },
+    /// by its tag, which a parameter list declares without a body, and by a file and an offset there
+    Parameter { tag: NameId, file: u32, offset: u32 },
 }
 
 /// A member of a struct (6.7.2.1).

@@ -65,7 +65,7 @@ pub struct Linked {
     pub types: Types,
     /// its names, each once
     pub names: Names,
-    /// its structs, by `StructId`
+    /// its structs, by `StructId`; each names structs of smaller numbers alone
     pub structs: Rows<StructName>,
     /// the members of its structs, by `MemberId`
     pub members: Rows<MemberInfo>,

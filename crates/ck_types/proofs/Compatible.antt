@@ -4,7 +4,8 @@ use Rattle.std.specs.Prelude.{◌&&◌, ◌==◌}
 use Rattle.std.specs.Str.{bytes_eq}
 use Rattle.ck_types.specs.Compatibility.{IsReflexive, IsSymmetric}
 use Rattle.ck_types.specs.Types.{CType, Void, Integer, Pointer, Array, Struct, Function, Parameters, NoParameters}
-use Rattle.ck_types.specs.Types.{Parameter, Qualifiers, StructIdentity, ByTag, ByTypedef, ByPlace, same_truth}
+use Rattle.ck_types.specs.Types.{Parameter, Qualifiers, StructIdentity, ByTag, ByTypedef, ByPlace, ByMember}
+use Rattle.ck_types.specs.Types.{ByParameter, same_truth}
 use Rattle.ck_types.specs.Types.{same_integer, same_qualifiers, same_struct, same_size, compatible, all_compatible}
 use Rattle.ck_types.specs.IntegerTypes.{rank, is_signed}
 use Rattle.ck_types.specs.declared.integer_types.IntegerType.{IntegerType}
@@ -57,11 +58,17 @@ same_struct-self : (s : StructIdentity) → same_struct s s ≡ true
 same_struct-self (ByTag a) = bytes-self a
 same_struct-self (ByTypedef a) = bytes-self a
 same_struct-self (ByPlace file offset) = and-true (equal-self file) (equal-self offset)
+same_struct-self (ByMember s k) = and-true (same_struct-self s) (equal-self k)
+same_struct-self (ByParameter a file offset) =
+    and-true (and-true (bytes-self a) (equal-self file)) (equal-self offset)
 
 same_struct-swap : (s t : StructIdentity) → same_struct s t ≡ same_struct t s
 same_struct-swap (ByTag a) (ByTag b) = bytes-swap a b
 same_struct-swap (ByTypedef a) (ByTypedef b) = bytes-swap a b
 same_struct-swap (ByPlace f a) (ByPlace g b) = and-same (equal-swap f g) (equal-swap a b)
+same_struct-swap (ByMember s k) (ByMember t i) = and-same (same_struct-swap s t) (equal-swap k i)
+same_struct-swap (ByParameter a f k) (ByParameter b g i) =
+    and-same (and-same (bytes-swap a b) (equal-swap f g)) (equal-swap k i)
 same_struct-swap _ _ = refl
 
 same_size-self : (n : Option ℕ) → same_size n n ≡ true

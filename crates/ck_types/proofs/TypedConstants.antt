@@ -7,7 +7,7 @@ use Rattle.std.proofs.lemmas.Bool.Decides.{nat_tests}
 use Rattle.ck_base.specs.IntegerConstants.{base_of, digits_of, is_integer_constant, is_suffix, is_unsigned_suffix}
 use Rattle.ck_base.specs.IntegerConstants.{suffix_of, value_limit, value_of}
 use Rattle.ck_types.specs.ConstantTypes.{ConstantsHaveTypes, constant_type, first_representing}
-use Rattle.ck_types.specs.ConstantTypes.{integer_constant, is_long, suffix_written, with_value}
+use Rattle.ck_types.specs.ConstantTypes.{is_long, suffix_written, with_value}
 use Rattle.ck_types.specs.IntegerTypes.{represents}
 use Rattle.ck_types.specs.declared.integer_types.IntegerType.{IntegerType}
 use Rattle.ck_types.specs.declared.integer_types.IntegerType.TheVariants as types
@@ -123,7 +123,7 @@ if-some true c o h = sym (h refl)
 if-some false c o h = refl
 
 pub constants-typed : ConstantsHaveTypes
-unfolding is_integer_constant integer_constant
+unfolding is_integer_constant
 constants-typed text =
     let base = base_of text in
     let digits = digits_of base text in

@@ -1,7 +1,7 @@
 -- Worked rows, computed on the definitions.
 use Rattle.std.proofs.Common.{◌≡◌, refl, Ok, Err, ℤ, pos, negsuc}
 use Rattle.std.specs.Prelude.{Some, None, true, false, codes}
-use Rattle.ck_types.specs.ConstantTypes.{character_constant, constant_type, integer_constant}
+use Rattle.ck_types.specs.ConstantTypes.{character_constant, constant, constant_type, integer_constant}
 use Rattle.ck_types.specs.declared.constants.Suffix.TheVariants as suffixes
 use Rattle.ck_types.specs.Arithmetic.{binary, unary}
 use Rattle.ck_types.specs.IntegerTypes.{converted, common, promoted, greatest, least}
@@ -145,37 +145,38 @@ no_type = refl
 
 -- constants by their bytes
 octal_constant : integer_constant (codes "037777777777") ≡ Some (as_type types.UnsignedInt (pos 4294967295))
-unfolding integer_constant
 octal_constant = refl
 
 suffixed_constant : integer_constant (codes "7Lu") ≡ Some (as_type types.UnsignedLong (pos 7))
-unfolding integer_constant
 suffixed_constant = refl
 
 long_long_constant : integer_constant (codes "0x10LL") ≡ Some (as_type types.LongLong (pos 16))
-unfolding integer_constant
 long_long_constant = refl
 
 plain_zero : integer_constant (codes "0") ≡ Some (as_type types.Int (pos 0))
-unfolding integer_constant
 plain_zero = refl
 
 no_constant : integer_constant (codes "18446744073709551616u") ≡ None
-unfolding integer_constant
 no_constant = refl
 
 no_octal : integer_constant (codes "08") ≡ None
-unfolding integer_constant
 no_octal = refl
 
 escaped_constant : character_constant (codes "'\\xff'") ≡ Some (as_type types.Int (pos 255))
-unfolding character_constant
 escaped_constant = refl
 
 bell_constant : character_constant (codes "'\\a'") ≡ Some (as_type types.Int (pos 7))
-unfolding character_constant
 bell_constant = refl
 
 no_character : character_constant (codes "''") ≡ None
-unfolding character_constant
 no_character = refl
+
+-- either
+number : constant (codes "0x10") ≡ Some (as_type types.Int (pos 16))
+number = refl
+
+character : constant (codes "'a'") ≡ Some (as_type types.Int (pos 97))
+character = refl
+
+no_literal : constant (codes "1u0") ≡ None
+no_literal = refl

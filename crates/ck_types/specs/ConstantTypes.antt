@@ -1,11 +1,12 @@
--- The type of an integer constant, by its base, suffix and value (C99 6.4.4.1); and the value of a constant with its type,
--- by its bytes. A character constant is an `int` (6.4.4.4).
+-- The type of an integer constant, by its base, suffix and value (C99 6.4.4.1); and the value of a constant with its
+-- type, by its bytes. A character constant is an `int` (6.4.4.4).
 use Rattle.std.specs.Option.{is_some}
 use Rattle.std.specs.Prelude.{◌≡◌, ℕ, Bool, true, false, ◌&&◌, ◌==◌, nat_lt, List, [], ◌∷◌, length, count_by}
-use Rattle.std.specs.Prelude.{Option, Some, None, if◌then◌else◌, ℤ, pos}
+use Rattle.std.specs.Prelude.{slice_index, Option, Some, None, if◌then◌else◌, ℤ, pos}
 use Rattle.ck_base.specs.CharacterConstants.{between_quotes, character_value}
 use Rattle.ck_base.specs.Characters.{◌∈◌}
-use Rattle.ck_base.specs.IntegerConstants.{base_of, digits_of, is_integer_constant, suffix_of, is_suffix, is_unsigned_suffix, value_of}
+use Rattle.ck_base.specs.IntegerConstants.{base_of, digits_of, is_integer_constant, suffix_of, is_suffix}
+use Rattle.ck_base.specs.IntegerConstants.{is_unsigned_suffix, value_of}
 use Rattle.ck_types.specs.IntegerTypes.{represents}
 use Rattle.ck_types.specs.declared.integer_types.IntegerType.{IntegerType}
 use Rattle.ck_types.specs.declared.operators.IntegerValue.{IntegerValue}
@@ -58,15 +59,23 @@ constant_in base digits suffix =
     else None
 
 -- the value of an integer constant with its type, by its bytes
-unfoldable pub integer_constant : List ℕ → Option IntegerValue
+abbrev pub integer_constant : List ℕ → Option IntegerValue
 integer_constant text = constant_in (base_of text) (digits_of (base_of text) text) (suffix_of (base_of text) text)
 
+abbrev pub as_int : Option ℕ → Option IntegerValue
+as_int None = None
+as_int (Some value) = Some (record { of = Int; value = pos value })
+
 -- the value of a character constant, which is an `int`, by its bytes
-unfoldable pub character_constant : List ℕ → Option IntegerValue
-character_constant text = int_value (character_value (between_quotes text)) where
-  int_value : Option ℕ → Option IntegerValue
-  int_value None = None
-  int_value (Some value) = Some (record { of = Int; value = pos value })
+abbrev pub character_constant : List ℕ → Option IntegerValue
+character_constant text = as_int (character_value (between_quotes text))
+
+-- the value of a constant with its type: of a character constant, which begins with a quote, or of an integer constant
+abbrev pub is_character : List ℕ → Bool
+is_character text = slice_index text 0 ∈ "'"
+
+abbrev pub constant : List ℕ → Option IntegerValue
+constant text = if is_character text then character_constant text else integer_constant text
 
 -- a token that is an integer constant has a type and a value, and nothing else has
 abbrev pub ConstantsHaveTypes : Type 0

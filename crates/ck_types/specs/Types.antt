@@ -10,12 +10,16 @@ pub record Qualifiers : Type 0 where
   pub constant : Bool
   pub volatile : Bool
 
--- A struct over all files: by its tag, else by the first typedef name of its declaration, else by its place, a file and an
--- offset there. A tag of block scope is by its place.
+-- A struct over all files: by its tag, else by the first typedef name of its declaration, else, in the body of another
+-- struct, by that one, else by its place, a file and an offset there. A tag of an inner scope is by its place.
 pub data StructIdentity : Type 0 where
   ByTag : List ℕ → StructIdentity
   ByTypedef : List ℕ → StructIdentity
   ByPlace : ℕ → ℕ → StructIdentity
+  -- 6.7.2.1: in the body of this one, after so many of its members
+  ByMember : StructIdentity → ℕ → StructIdentity
+  -- 6.2.1: of this tag, which a parameter list at this place declares without a body
+  ByParameter : List ℕ → ℕ → ℕ → StructIdentity
 
 mutual
   pub data CType : Type 0 where
@@ -48,6 +52,8 @@ abbrev pub same_struct : StructIdentity → StructIdentity → Bool
 same_struct (ByTag a) (ByTag b) = bytes_eq a b
 same_struct (ByTypedef a) (ByTypedef b) = bytes_eq a b
 same_struct (ByPlace file offset) (ByPlace other at) = file == other && offset == at
+same_struct (ByMember s k) (ByMember t i) = same_struct s t && k == i
+same_struct (ByParameter a file offset) (ByParameter b other at) = bytes_eq a b && file == other && offset == at
 same_struct _ _ = false
 
 -- 6.7.5.2: two sizes, of which one may be unknown

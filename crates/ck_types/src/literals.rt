@@ -15,7 +15,6 @@ use crate::operators::IntegerValue;
 
 /// The value of an integer constant with its type, by all its bytes: prefix, digits and suffix (6.4.4.1). None where they
 /// are no integer constant whose type exists within 64 bits.
-#[tactic(auto, unfolding(crate::specs::ConstantTypes::integer_constant))]
 pub fn integer_constant(text: &[u8]) -> Option<IntegerValue>
     ensures value { result ≡ spec.integer_constant text.now }
     ensures range { IfSome result IsInRange }
@@ -28,7 +27,6 @@ pub fn integer_constant(text: &[u8]) -> Option<IntegerValue>
 
 /// The value of a character constant, which is an `int`, by all its bytes, its quotes among them (6.4.4.4). None where they
 /// hold no single character with a value up to 255.
-#[tactic(auto, unfolding(crate::specs::ConstantTypes::character_constant))]
 pub fn character_constant(text: &[u8]) -> Option<IntegerValue>
     ensures { result ≡ spec.character_constant text.now }
 {
