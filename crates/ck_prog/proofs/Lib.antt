@@ -27,7 +27,7 @@ mod WorkedOperators
 mod WorkedNames
 mod WorkedTrees
 -- Worked projects, by the numbers of their refusals
-mod ProjectTexts
+pub mod ProjectTexts
 mod WorkedScopes
 mod WorkedLinks
 mod WorkedConstants
