@@ -1,0 +1,5 @@
+mod LookLemmas
+pub mod Loops
+mod NameLemmas
+mod SameWords
+mod Unspelled
