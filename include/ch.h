@@ -2,6 +2,6 @@
 #ifndef CH_H
 #define CH_H
 
-#include "rtcheck_ch.h"
+#include "rtcheck_kernel.h"
 
 #endif

@@ -6,4 +6,10 @@
 
 typedef int32_t ptrdiff_t;
 
+/*
+ * A value that isn't known, so that a test of it goes both ways; as an array's size or a static initialiser it is
+ * refused.
+ */
+#define offsetof(type, member) ((size_t) & ((type *)0)->member)
+
 #endif

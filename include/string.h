@@ -7,6 +7,7 @@
 
 #include "rtcheck_ch.h"
 
+/* No kernel call. */
 void *memcpy(void *, const void *, size_t);
 void *memmove(void *, const void *, size_t);
 void *memset(void *, int, size_t);
@@ -20,5 +21,13 @@ char *strstr(const char *, const char *);
 int strcmp(const char *, const char *);
 int strncmp(const char *, const char *, size_t);
 size_t strlen(const char *);
+size_t strnlen(const char *, size_t);
+void *memchr(const void *, int, size_t);
+char *strncat(char *, const char *, size_t);
+char *strpbrk(const char *, const char *);
+char *strtok(char *, const char *);
+char *strtok_r(char *, const char *, char **);
+size_t strspn(const char *, const char *);
+size_t strcspn(const char *, const char *);
 
 #endif

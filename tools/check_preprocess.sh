@@ -1,7 +1,7 @@
 #!/bin/sh
 # Whether tools/preprocess.sh does what docs/PREPROCESSING.md says, with each compiler that is here, gcc and clang:
 #
-# - it makes of each example's C sources a text that the compiler accepts and that has no path of this machine;
+# - it makes of the C sources of each example without a Makefile a text that the compiler accepts and that has no path of this machine;
 # - texts of sources that are gone are removed, and no other files;
 # - a folder of --headers is searched before the stub headers, and one of -I after them;
 # - carriage returns at the ends of lines are taken out;
@@ -33,7 +33,7 @@ examples() {
   for folder in examples/*/; do
     folder=${folder%/}
     set -- "$folder"/*.c
-    [ -e "$1" ] || continue
+    [ -e "$1" ] && [ ! -e "$folder/Makefile" ] || continue
     run "$@" --out "$dir/$folder"
     [ "$status" -ne 0 ] || for text in "$dir/$folder"/*.i; do
       "$compiler" -std=c99 -fsyntax-only -x cpp-output "$text" || status=1
@@ -63,8 +63,8 @@ sources_that_are_gone() {
 
 headers_of_ones_own() {
   mkdir "$dir/own headers" "$dir/src"
-  printf '#include "rtcheck_ch.h"\ntypedef struct { int state; } GPTDriver;\n' > "$dir/own headers/hal.h"
-  printf '#include "ch.h"\n#include "hal.h"\nGPTDriver driver;\n' > "$dir/src/main.c"
+  printf '#include "rtcheck_ch.h"\ntypedef struct { int state; } OwnDriver;\n' > "$dir/own headers/hal.h"
+  printf '#include "ch.h"\n#include "hal.h"\nOwnDriver driver;\n' > "$dir/src/main.c"
   run "$dir/src/main.c" --out "$dir/after" "-I$dir/own headers"
   after=$status
   run "$dir/src/main.c" --out "$dir/before" --headers "$dir/own headers"

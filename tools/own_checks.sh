@@ -5,8 +5,10 @@
 #   byte and ends with its status;
 # - the program through a pipe, into a closed pipe and onto a full device, in a folder and on a file that it may not read, on
 #   words that are no command, and on an accepted file of a megabyte;
-# - the stub headers, docs/KERNEL.md and the table of kernel calls agree (tools/check_header.sh), and tools/preprocess.sh does
-#   what it says (tools/check_preprocess.sh);
+# - the stub headers, docs/KERNEL.md and the table of kernel calls agree (tools/check_header.sh), the drivers' headers serve
+#   applications (tools/check_drivers.sh), and tools/preprocess.sh does what it says (tools/check_preprocess.sh);
+# - tools/rtcheck-build and tools/rtcheck-report do what docs/PREPROCESSING.md and docs/CI.md say, and each example with a
+#   Makefile goes from its build to the folder that is checked (tools/check_tools.sh);
 # - docs/PROMISES.md speaks of what is there (tools/check_promises.sh), no public contract reaches a private definition, and README
 #   says how many lines the program's contract reaches (tools/trusted.sh);
 # - no .rt or .antt file of the repository has more than 800 lines, and no crate of tests more than 60 functions.
@@ -50,6 +52,7 @@ check() { # check LINE STATUS REPORT SAID: whether the last run ended so
 examples() {
   for folder in examples/*/; do
     folder=${folder%/}
+    [ ! -e "$folder/Makefile" ] || continue # tools/check_tools.sh builds these
     if [ ! -e "$folder/report" ]; then
       echo "own check: $folder isn't run: it has no report yet"
     elif tools/run_example.sh "$program" "$folder" > "$dir/run/report" 2>&1; then
@@ -189,7 +192,9 @@ else
 fi
 
 tools/check_header.sh || failed=$((failed + 1))
+tools/check_drivers.sh || failed=$((failed + 1))
 tools/check_preprocess.sh || failed=$((failed + 1))
+RTCHECK_PROGRAM=${program:-} tools/check_tools.sh || failed=$((failed + 1))
 tools/check_promises.sh || failed=$((failed + 1))
 
 # no private definition is reached by a public contract, and README says how much the program's contract reaches

@@ -3,17 +3,17 @@
 #
 #   tools/preprocess.sh APP_SOURCES.. --out FOLDER [--headers FOLDER].. [-IFOLDER] [-DNAME=VALUE] ..
 #
-# Each source NAME.c becomes FOLDER/NAME.i. The compiler is $CC, or gcc where that isn't set; its own headers and predefined
-# macros are left out. Headers are looked for in the folders of --headers, then in include/, then in those of -I. Words that
-# begin with - go to the preprocessor.
+# Each source NAME.c becomes FOLDER/NAME.i. The compiler is $CC, or gcc where that isn't set; its own headers and
+# predefined macros are left out, and include/rtcheck_forced.h goes before each source. Headers are looked for in the
+# folders of --headers, then in include/, then in those of -I. Words that begin with - go to the preprocessor.
 #
-# The compiler is shown each text first. Where it refuses a source, its messages are passed on, the status is 1, and the
-# folder stays as it was. Else the texts go into the folder, and those that an earlier run made there of sources that aren't
-# named any more are removed: FOLDER/.preprocessed lists what was made, each with its checksum, so that no file of another
-# origin is removed, and none that was changed since.
+# The compiler is shown each text first. Where it refuses a source, its messages are passed on, the status is 1, and
+# the folder stays as it was. Else the texts go into the folder, and those that an earlier run made there of sources
+# that aren't named any more are removed: FOLDER/.preprocessed lists what was made, each with its checksum, so that no
+# file of another origin is removed, and none that was changed since.
 #
-# Line markers name a source as it is named here, and the stub headers as include/.. wherever the checker stands. Carriage
-# returns at the ends of lines are taken out. Status 2 is for wrong words.
+# Line markers name a source as it is named here, and the stub headers as include/.. wherever the checker stands.
+# Carriage returns at the ends of lines are taken out. Status 2 is for wrong words.
 set -eu
 usage() {
   echo 'usage: tools/preprocess.sh APP_SOURCES.. --out FOLDER [--headers FOLDER].. [-IFOLDER] [-DNAME=VALUE] ..' >&2
@@ -72,7 +72,7 @@ preprocess() { # preprocess SOURCE WORD..: what the preprocessor makes of the so
       -*) set -- "$@" "$word" ;;
     esac
   done
-  "$compiler" -E -std=c99 -undef -nostdinc "$@" -x c "$source"
+  "$compiler" -E -std=c99 -undef -nostdinc -include "$RTCHECK_INCLUDE/rtcheck_forced.h" "$@" -x c "$source"
 }
 accepts() { # accepts TEXT: the compiler takes the text as C; else it says why
   "$compiler" "$bits" -std=c99 -w -funsigned-char -fno-builtin -fsyntax-only -x cpp-output "$1"

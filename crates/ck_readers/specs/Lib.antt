@@ -5,5 +5,4 @@ pub mod SourceView
 pub mod NameSet
 pub mod Forms
 pub mod Rows
--- Private
 pub mod Looks

@@ -1,0 +1,6 @@
+/* The microcontroller's settings. */
+#define STM32F4xx_MCUCONF
+#define STM32_GPT_USE_TIM4 TRUE
+#define STM32_GPT_TIM4_IRQ_PRIORITY 7
+#define STM32_SERIAL_USE_USART2 TRUE
+#define STM32_SERIAL_USART2_PRIORITY 12

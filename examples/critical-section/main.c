@@ -1,0 +1,9 @@
+#include "ch.h"
+
+int main(void) {
+  chSysInit();
+  chSysLock();
+  chSysUnlock();
+  chSysSuspend();
+  chSysEnable();
+}

@@ -1,0 +1,5 @@
+/* The drivers that are used. */
+#include "mcuconf.h"
+
+#define HAL_USE_PAL TRUE
+#define HAL_USE_SERIAL TRUE

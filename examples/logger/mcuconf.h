@@ -1,0 +1,6 @@
+/* The microcontroller's settings. */
+#define STM32F4xx_MCUCONF
+#define STM32_IRQ_EXTI0_PRIORITY 6
+#define STM32_SERIAL_USE_USART2 TRUE
+#define STM32_SERIAL_USART2_PRIORITY 12
+#define STM32_ST_IRQ_PRIORITY 8

@@ -1,0 +1,3 @@
+#define HAL_USE_PAL TRUE
+#define HAL_USE_GPT TRUE
+#define HAL_USE_SPI FALSE

@@ -1,0 +1,2 @@
+#define LINE_LED PAL_LINE(GPIOD, 13U)
+#define BOARD_TIMER_HANDLER Vector108

@@ -1,0 +1,1 @@
+int x = "the kernel own source";
