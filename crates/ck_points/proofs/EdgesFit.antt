@@ -5,31 +5,29 @@ use Rattle.std.specs.List.{AllByRecursion as Each}
 use Rattle.std.proofs.lemmas.List.Elements.{All-contains, All-from_recursion}
 use Rattle.ck_prog.specs.TypedBodies.{TypedFunction}
 use Rattle.ck_points.specs.Functions.{inside, plain_body, pair_body, pair_left, exit, status_in, points}
-use Rattle.ck_points.specs.Labels.{labels_from}
 use Rattle.ck_points.specs.Laws.{FitsHappening, EdgesFit}
 use Rattle.ck_points.specs.Passages.{Passage}
 use Rattle.ck_points.specs.Places.{Happening, Passes, Calls, EntersPair, LeavesPair, Ends, Point, Way, leads}
 use Rattle.ck_points.specs.Places.{Before, Enter, Leave, place}
-use Rattle.ck_points.specs.Statements.{Jumps}
-use Rattle.ck_points.proofs.OrdinaryPoints.{IsOrdinary, Ordinary, Every, items_each}
+use Rattle.ck_points.proofs.ExpressionsApart.{From}
+use Rattle.ck_points.proofs.OrdinaryPoints.{IsOrdinary, Ordinary}
 use Rattle.ck_points.proofs.PassagesStay.{each_append}
+use Rattle.ck_points.proofs.StatementsApart.{inside_below}
 
 -- a point of a function: one of the body, or one of the function's own
 pub data Kind (q : Point) : Type 0 where
-  Inner : Ordinary q → Kind q
+  Inner : From [] 0 q.place.path → Ordinary q → Kind q
   First : q.place ≡ place [] [] Before → q.happening ≡ Passes → Kind q
   Entered : q.place ≡ place [] [] Enter → q.happening ≡ EntersPair → length q.edges ≡ 1 → Kind q
   Left : q.place ≡ place [] [] Leave → q.happening ≡ LeavesPair → length q.edges ≡ 1 → Kind q
   Last : q.place ≡ exit → q.happening ≡ Ends → length q.edges ≡ 0 → Kind q
 
-all_inner : (qs : List Point) → Each Ordinary qs → Each Kind qs
-all_inner [] each = tt
-all_inner (q ∷ qs) each = (Inner each.0, all_inner qs each.1)
+all_inner : (qs : List Point) → Each (λ q. From [] 0 q.place.path) qs → Each Ordinary qs → Each Kind qs
+all_inner [] from each = tt
+all_inner (q ∷ qs) from each = (Inner from.0 each.0, all_inner qs from.1 each.1)
 
-inside_each : (f : TypedFunction) (out : Way) → Every (inside f out)
-inside_each f out =
-    let j : Jumps = record { broken = out; continued = out; returned = out; labels = labels_from [] 0 f.items } in
-    items_each j [] 0 f.items out
+inside_kinds : (f : TypedFunction) (out : Way) → Each Kind (inside f out).points
+inside_kinds f out = let b = inside_below f out in all_inner (inside f out).points b.from b.ordinary
 
 either_kind : (b : Bool) (p q : Passage) → Each Kind p.points → Each Kind q.points
     → Each Kind (if b then p else q).points
@@ -45,12 +43,12 @@ all_kinds f =
       First refl refl,
       (
         Entered refl refl refl,
-        each_append Kind paired.points _ (all_inner paired.points (inside_each f (leads pair_left)))
+        each_append Kind paired.points _ (inside_kinds f (leads pair_left))
             (Left refl refl refl, (Last refl refl refl, tt)),
       ),
     ) (
       First refl refl,
-      each_append Kind plain.points _ (all_inner plain.points (inside_each f (leads exit))) (Last refl refl refl, tt),
+      each_append Kind plain.points _ (inside_kinds f (leads exit)) (Last refl refl refl, tt),
     )
 
 pub kind_of_point : (f : TypedFunction) (d : Point) → Contains (points f) d → Kind d
@@ -66,7 +64,7 @@ fits_ordinary LeavesPair n is = absurd is
 fits_ordinary Ends n is = absurd is
 
 fits_kind : (d : Point) → Kind d → FitsHappening d.happening (length d.edges)
-fits_kind d (Inner is) = fits_ordinary d.happening (length d.edges) is.1
+fits_kind d (Inner f is) = fits_ordinary d.happening (length d.edges) is
 fits_kind d (First at is) = rw is tt
 fits_kind d (Entered at is one) = rw is one
 fits_kind d (Left at is one) = rw is one

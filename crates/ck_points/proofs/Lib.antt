@@ -2,9 +2,13 @@
 mod PassagesStay
 mod StatementsStay
 mod EdgesStay
--- edges_fit: paths of points, then points of bodies, then functions
-mod NodesBelow
+-- places_differ: evaluations, then expressions, then points of evaluations, then statements and functions
+mod Apart
+mod ExpressionsApart
+mod PointsApart
 mod OrdinaryPoints
+mod StatementsApart
+-- edges_fit
 mod EdgesFit
 -- places_are_numbered
 mod OneNumber

@@ -18,7 +18,6 @@ use Rattle.ck_points.specs.Graphs.{Program, kind_of, kind_of_call, IsAt, IsEdge,
 use Rattle.ck_points.specs.Laws.{FitsHappening, GraphsAreSound}
 use Rattle.ck_points.specs.Places.{side_number, Happening, Passes, Calls, EntersPair, LeavesPair, Ends, Point, Edge}
 use Rattle.ck_points.proofs.EdgesFit.{Kind, Inner, First, Entered, Left, Last, kind_of_point, edges_fit}
-use Rattle.ck_points.proofs.NodesBelow.{IsBelow}
 use Rattle.ck_points.proofs.OneNumber.{only_one}
 use Rattle.ck_points.proofs.OrdinaryPoints.{IsOrdinary}
 
@@ -49,14 +48,14 @@ ends p i f π Ends is = refl
 
 -- only the exit ends a function, and nothing else is after its body
 at_exit : (d : Point) → Kind d → d.happening ≡ Ends → d.place ≡ exit
-at_exit d (Inner is) ends = absurd (subst (λ h. IsOrdinary h (length d.edges)) ends is.1)
+at_exit d (Inner f is) ends = absurd (subst (λ h. IsOrdinary h (length d.edges)) ends is)
 at_exit d (First at is) ends = absurd (cc)
 at_exit d (Entered at is one) ends = absurd (cc)
 at_exit d (Left at is one) ends = absurd (cc)
 at_exit d (Last at is none) ends = at
 
 after_body : (d : Point) → Kind d → d.place.path ≡ [] → side_number d.place.side ≡ 5 → d.happening ≡ Ends
-after_body d (Inner is) path side = absurd (subst IsBelow path is.0)
+after_body d (Inner f is) path side = let e : [] ≡ f.step ∷ f.rest = sym path ∙ f.is in absurd (cc)
 after_body d (First at is) path side =
     let e : side_number d.place.side ≡ 1 = ap (λ p. side_number p.side) at in absurd (omega (arith, e, side))
 after_body d (Entered at is one) path side =

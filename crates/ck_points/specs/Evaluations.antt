@@ -78,12 +78,16 @@ abbrev pub with_calls : List Value → List Evaluation
 with_calls [] = []
 with_calls (v ∷ vs) = if v.facts.holds_call then v.evaluation ∷ with_calls vs else with_calls vs
 
+-- the next of an order, and then what comes after it
+abbrev pub next_in : List Evaluation → (List Evaluation → Evaluation) → Evaluation
+next_in [] after = after []
+next_in (e ∷ order) after = Then e (after order)
+
 -- the operands from left to right, but those with calls in this order among their places
 abbrev pub arranged : List Value → List Evaluation → Evaluation
 arranged [] order = Nothing
-arranged (v ∷ vs) [] = Then v.evaluation (arranged vs [])
-arranged (v ∷ vs) (e ∷ order) =
-    if v.facts.holds_call then Then e (arranged vs order) else Then v.evaluation (arranged vs (e ∷ order))
+arranged (v ∷ vs) order =
+    if v.facts.holds_call then next_in order (arranged vs) else Then v.evaluation (arranged vs order)
 
 -- all orders of two or three, in lexicographic order
 abbrev pub orders_of : List Evaluation → List (List Evaluation)

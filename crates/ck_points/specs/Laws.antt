@@ -1,5 +1,5 @@
 -- Laws about the points and edges of functions, and about their graphs.
-use Rattle.std.specs.Prelude.{◌≡◌, ◌<◌, ⊤, ℕ, List, length, Contains, slice_get, Some}
+use Rattle.std.specs.Prelude.{◌≡◌, ◌≢◌, ◌<◌, ⊤, ℕ, List, length, Contains, AllPairs, slice_get, Some}
 use Rattle.ck_graph.specs.Faults.{IsSmall, IsSound}
 use Rattle.ck_graph.specs.Flow.{Flow, point_at, point_count}
 use Rattle.ck_prog.specs.TypedBodies.{TypedFunction}
@@ -29,6 +29,10 @@ FitsHappening Ends edges = edges ≡ 0
 
 abbrev pub EdgesFit : Type 0
 EdgesFit = (f : TypedFunction) (d : Point) → Contains (points f) d → FitsHappening d.happening (length d.edges)
+
+-- no two points of a function are at one place
+abbrev pub PlacesDiffer : Type 0
+PlacesDiffer = (f : TypedFunction) → AllPairs (λ a b. a.place ≢ b.place) (points f)
 
 -- the graph has exactly one point at this place of the function of this number
 pub record HasOneNumber (flow : Flow) (i : ℕ) (at : Place) : Type 0 where

@@ -1,5 +1,5 @@
 //! Laws about the definitions, each the contract of a function that does nothing.
-ghost use Rattle.ck_points.specs.Laws.{EdgesFit, EdgesStay, GraphsAreSound, PlacesAreNumbered};
+ghost use Rattle.ck_points.specs.Laws.{EdgesFit, EdgesStay, GraphsAreSound, PlacesAreNumbered, PlacesDiffer};
 
 /// Each edge of a function leads to a point of the function.
 pub fn edges_stay()
@@ -9,6 +9,11 @@ pub fn edges_stay()
 /// A call, and an act by which a function is entered or left, has one edge, and the exit none.
 pub fn edges_fit()
     ensures { EdgesFit }
+{}
+
+/// No two points of a function are at one place.
+pub fn places_differ()
+    ensures { PlacesDiffer }
 {}
 
 /// In the graph of a project's functions the place of each point of each function has exactly one number.

@@ -10,4 +10,4 @@
 
 mod laws;
 
-pub use laws::{edges_fit, edges_stay, graphs_are_sound, places_are_numbered};
+pub use laws::{edges_fit, edges_stay, graphs_are_sound, places_are_numbered, places_differ};
