@@ -6,3 +6,5 @@ pub mod NameSet
 pub mod Forms
 pub mod Rows
 pub mod Looks
+-- Private
+pub mod Steps

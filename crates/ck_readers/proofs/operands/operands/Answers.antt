@@ -1,0 +1,28 @@
+use Rattle.std.proofs.Common.{length, ◌-◌, ◌+◌}
+use Rattle.ck_readers.proofs.ExpressionLoops.{operand_loop_is}
+use Rattle.ck_readers.proofs.Loops.{so_far_step, so_far_stop, so_far_end, no_step, is_step, fuel_step, fuel_end}
+use Rattle.ck_readers.specs.SourceView.{words}
+use Rattle.ck_readers.proofs.operands.operands.Goals as goal
+
+pub returns-in-None : goal.returns-in-None
+returns-in-None g c inner reads =
+    so_far_stop _ _ _ g.T.Building.operands _ _ _ _ _ (length c.args.source.now.tokens - c.operands._step)
+    (length c.args.source.now.tokens - (c.operands._step + 1))
+    (operand_loop_is (words c.args.source.now) (inner c.args.tighter) c.args.of)
+    (fuel_step _ _ _ c.operands-test.true c.len-step-end.ensures) (c.operands.invariant inner reads)
+    (no_step _ _ _ _ _ _ c.in-None.is (c.in_ok-operand.ensures inner reads))
+
+pub operands-preserved : goal.operands-preserved
+operands-preserved g c inner reads =
+    so_far_step _ _ _ _ _ _ _ _ _ (length c.args.source.now.tokens - c.operands._step)
+    (length c.args.source.now.tokens - (c.operands._step + 1))
+    (operand_loop_is (words c.args.source.now) (inner c.args.tighter) c.args.of)
+    (fuel_step _ _ _ c.operands-test.true c.len-step-end.ensures) (c.operands.invariant inner reads)
+    (is_step _ _ _ _ _ _ _ c.in-Some.is (c.in_ok-operand.ensures inner reads))
+
+pub returns : goal.returns
+returns g c inner reads =
+    so_far_end _ _ _ g.T.Building.operands _ _ _ _ (length c.args.source.now.tokens - c.operands._step)
+    (operand_loop_is (words c.args.source.now) (inner c.args.tighter) c.args.of)
+    (fuel_end _ _ _ c.operands-test.false c.len-step-end.ensures)
+    (c.operands.invariant inner reads)
