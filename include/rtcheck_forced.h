@@ -3,14 +3,18 @@
  *
  * Attributes are left out. That is right for those that only place, align or describe what they stand at (section,
  * aligned, packed, used, weak, noreturn, format, ..). Those that make code run, `constructor`, `destructor` and
- * `cleanup`, and those that give a function another's body, `alias` and `ifunc`, have to be taken out of what is
- * checked.
+ * `cleanup`, and those that give a function another's body, `alias`, `ifunc` and `weakref`, are looked for by
+ * tools/preprocess.sh, which keeps attributes by RTCHECK_KEEP_ATTRIBUTES for that, and refuses them.
  */
 #ifndef RTCHECK_FORCED_H
 #define RTCHECK_FORCED_H
 
+#ifdef RTCHECK_KEEP_ATTRIBUTES
+#define __attribute __attribute__
+#else
 #define __attribute__(x)
 #define __attribute(x)
+#endif
 #define __extension__
 #define __inline inline
 #define __inline__ inline

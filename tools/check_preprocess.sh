@@ -5,6 +5,7 @@
 # - texts of sources that are gone are removed, and no other files;
 # - a folder of --headers is searched before the stub headers, and one of -I after them;
 # - carriage returns at the ends of lines are taken out;
+# - attributes are left out, but those that make code run are refused;
 # - what the compiler refuses is passed on, with status 1, and the folder stays as it was.
 set -eu
 top=$(cd "$(dirname "$0")/.." && pwd)
@@ -93,6 +94,24 @@ END
   fi
 }
 
+attributes() { # those that only place or describe are left out, and those that make code run are refused
+  printf '#define AT __attribute__\nint a AT((aligned(4),\n  section(".ram")));\nvoid f(void) __attribute__((weak));\n' > "$dir/placed.c"
+  run "$dir/placed.c" --out "$dir/placed"
+  placed=$status
+  grep -q attribute "$dir/placed/placed.i" && placed=2
+  refused=0
+  for attribute in constructor __destructor__ 'section(".x"), cleanup(g)' 'weak, alias("g")'; do
+    printf "void g(void);\\nvoid f(void) __attribute__((%s));\\n" "$attribute" > "$dir/run.c"
+    run "$dir/run.c" --out "$dir/runs"
+    [ "$status" -eq 1 ] && [ ! -e "$dir/runs" ] && grep -q 'take them out' "$dir/said" && refused=$((refused + 1))
+  done
+  if [ "$placed" -eq 0 ] && [ "$refused" -eq 4 ]; then
+    right "attributes are left out, and those that make code run are refused ($compiler)"
+  else
+    wrong "attributes ($compiler): $placed where they may be left out, $refused of 4 refused"
+  fi
+}
+
 refusals() {
   printf 'int main(void) {\n  return 0\n}\n' > "$dir/broken.c"
   echo '#include "no_such_header.h"' > "$dir/lost.c"
@@ -116,6 +135,7 @@ for compiler in gcc clang; do
   sources_that_are_gone
   headers_of_ones_own
   carriage_returns
+  attributes
   refusals
 done
 [ "$failed" -eq 0 ]

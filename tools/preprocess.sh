@@ -8,7 +8,7 @@
 # folders of --headers, then in include/, then in those of -I. Words that begin with - go to the preprocessor.
 #
 # The compiler is shown each text first. Where it refuses a source, its messages are passed on, the status is 1, and
-# the folder stays as it was. Else the texts go into the folder, and those that an earlier run made there of sources
+# the folder stays as it was; so it is where an attribute makes code run that the source doesn't call. Else the texts go into the folder, and those that an earlier run made there of sources
 # that aren't named any more are removed: FOLDER/.preprocessed lists what was made, each with its checksum, so that no
 # file of another origin is removed, and none that was changed since.
 #
@@ -78,6 +78,11 @@ accepts() { # accepts TEXT: the compiler takes the text as C; else it says why
   "$compiler" "$bits" -std=c99 -w -funsigned-char -fno-builtin -fsyntax-only -x cpp-output "$1"
 }
 
+attributes() { # attributes TEXT: those that make code run which isn't called, or give a function the body of another
+  tr '\n' ' ' < "$1" | grep -o '__attribute__ *(([^;{}]*))' |
+    grep -E '[^A-Za-z0-9_](__)?(constructor|destructor|cleanup|alias|ifunc|weakref)(__)?[^A-Za-z0-9_]'
+}
+
 failed=0 names=:
 for source in "$@"; do
   case $source in -*) continue ;; esac
@@ -94,7 +99,13 @@ for source in "$@"; do
       { sub(/\r+$/, "") }
       substr($0, 1, 1) == "#" && (at = index($0, "\"" long)) { $0 = substr($0, 1, at) "include/" substr($0, at + 1 + length(long)) }
       { print }' "$work/text" > "$work/texts/$name"
-    accepts "$work/texts/$name" || failed=$((failed + 1))
+    preprocess "$source" "$@" -DRTCHECK_KEEP_ATTRIBUTES > "$work/kept" 2>/dev/null || true
+    if attributes "$work/kept" >&2; then
+      echo "preprocess.sh: $source: without these attributes the text is another program; take them out" >&2
+      failed=$((failed + 1))
+    else
+      accepts "$work/texts/$name" || failed=$((failed + 1))
+    fi
   else
     failed=$((failed + 1))
   fi

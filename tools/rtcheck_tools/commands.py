@@ -24,6 +24,8 @@ class Unreadable(Exception):
 
 # words with a value after them that names no source
 VALUED = {"-o", "-x", "-MF", "-MT", "-MQ", "-Xlinker", "-Xassembler", "-T", "-arch", "-target", "--param"}
+# commands that only say what a compiler's line is, as ChibiOS's rules do
+SAYING = {"echo", "printf", "true", "false", ":", "test", "["}
 FOLDERS = ("-I", "-isystem", "-iquote", "-idirafter")
 
 
@@ -75,7 +77,7 @@ def sources_of(commands: Iterator[Tuple[str, List[str]]]) -> Tuple[Dict[str, Sou
     otherwise."""
     found, again = {}, []
     for folder, words in commands:
-        if "-c" not in words:
+        if "-c" not in words or os.path.basename(words[0]) in SAYING:
             continue
         flags, names = flags_of(words[1:], folder)
         for name in names:

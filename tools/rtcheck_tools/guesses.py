@@ -77,11 +77,12 @@ def guess_callbacks(found, everything, own):
 
 
 def is_given(struct, member, own):
-    """Whether it looks as if a driver's member were given a function: it is assigned, or it may be in an initialiser, which
-    either names it or goes by positions."""
+    """Whether it looks as if a driver's member were given a function: it is assigned, which of a configuration needs its
+    type, or it may be in an initialiser, which either names it or goes by positions."""
     if struct == "palevent_t":
         return "rtcheck_palevent" in own
-    if re.search(rf"\b{member}\s*=[^=]", own):
+    is_named = struct.endswith("Driver") or re.search(rf"\b{struct}\b", own)
+    if is_named and re.search(rf"\b{member}\s*=[^=]", own):
         return True
     initialisers = re.findall(rf"\b{struct}\b[^;(){{}}=]*=\s*\{{\s*(.)", own)
     return any(first != "." for first in initialisers)

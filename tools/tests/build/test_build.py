@@ -196,7 +196,8 @@ class Commands(unittest.TestCase):
         self.assertEqual(list(self.sources(text)[0]), ["/app/one/x.c", "/app/two/x.c", "/app/z.c"])
 
     def test_what_compiles_nothing(self):
-        for line in ("echo it's -c x.c", "gcc -o x x.o", "gcc -E x.c", "gcc -c x.cpp x.s", "", "rm -f x.c"):
+        said = ("echo it's -c x.c", "echo gcc -c x.c -o x.o", "/bin/echo gcc -c x.c")
+        for line in (*said, "gcc -o x x.o", "gcc -E x.c", "gcc -c x.cpp x.s", "", "rm -f x.c"):
             self.assertEqual(self.sources(line + "\n"), ({}, []), line)
 
     def test_a_source_that_is_compiled_again(self):

@@ -86,7 +86,7 @@ def alarms(report):
 class Reading(unittest.TestCase):
     def test_there_are_reports(self):
         self.assertGreater(len(list(reports())), 60)
-        self.assertEqual(len(list(worked_projects())), 7)
+        self.assertGreaterEqual(len(list(worked_projects())), 7)
 
     def test_what_is_read_is_written_back(self):
         for where, raw in reports():
