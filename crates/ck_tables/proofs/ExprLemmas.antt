@@ -1,5 +1,5 @@
--- A table of expressions that grows at its end: what its numbers stand for stays, and the last one stands for its node's
--- tree.
+-- A table of expressions that grows at its end: what its numbers stand for stays, and the last one stands for its
+-- node's tree.
 use Rattle.std.proofs.Common.{◌≡◌, ℕ, ◌<◌, ◌≤◌, List, [], ◌∷◌, ◌++◌, length, get_or, refl, ap, arith, sym, ◌∙◌}
 use Rattle.std.specs.Prelude.{true}
 use Rattle.ck_prog.specs.TypedTrees.{Typed, Links, Arguments, Steps, TypeParts}
@@ -19,7 +19,7 @@ use Rattle.ck_tables.specs.declared.exprs.Part.TheVariants as parts
 use Rattle.ck_tables.specs.declared.exprs.Step.{Step}
 use Rattle.ck_tables.specs.declared.exprs.Step.TheVariants as steps
 
--- rows and nodes over the same trees are the same -----------------------------------------------------------------------
+-- rows and nodes over the same trees are the same ---------------------------------------------------------------------
 
 links-same : (w : Readings) (k : ℕ) (f g : ℕ → Typed) (ls : List Link) → Agree k f g → links_below k ls ≡ true
     → links_of w f ls ≡ links_of w g ls
@@ -83,7 +83,7 @@ make-same w k f g (nodes.Unary facts operator operand) same h =
     ap (trees.Unary (plain_facts w facts) operator) (same operand.0 (grind arith))
 make-same w k f g (nodes.SizeofType facts written) same h =
     ap (trees.SizeofType (plain_facts w facts)) (parts-same w k f g written.items same h)
-make-same w k f g (nodes.Cast facts written operand) same h =
+make-same w k f g (nodes.Cast facts operand written) same h =
     ap (λ ps. trees.Cast (plain_facts w facts) ps (f operand.0)) (parts-same w k f g written.items same (grind arith))
     ∙ ap (trees.Cast (plain_facts w facts) (parts_of w g written.items)) (same operand.0 (grind arith))
 make-same w k f g (nodes.Chain first links) same h =
@@ -97,7 +97,7 @@ make-same w k f g (nodes.Assignment facts operator target value) same h =
     ap (λ t. trees.Assignment (plain_facts w facts) operator t (f value.0)) (same target.0 (grind arith))
     ∙ ap (trees.Assignment (plain_facts w facts) operator (g target.0)) (same value.0 (grind arith))
 
--- rows name numbers below greater ones too -----------------------------------------------------------------------------
+-- rows name numbers below greater ones too ----------------------------------------------------------------------------
 
 links-more : (k l : ℕ) (ls : List Link) → k ≤ l → links_below k ls ≡ true → links_below l ls ≡ true
 links-more k l [] most h = refl
@@ -135,7 +135,7 @@ parts-more k l (p ∷ ps) most h =
     let more = parts-more k l ps most (grind arith) in
     grind (arith, one, more)
 
--- what a table that has grown keeps ------------------------------------------------------------------------------------------
+-- what a table that has grown keeps -----------------------------------------------------------------------------------
 
 -- rows follow from single numbers
 keeping_rows : (ns ms : List ExprNode) → length ns ≤ length ms

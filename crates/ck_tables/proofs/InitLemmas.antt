@@ -4,21 +4,28 @@ use Rattle.std.specs.Prelude.{true}
 use Rattle.ck_prog.specs.TypedBodies as bodies
 use Rattle.ck_prog.specs.TypedBodies.{TypedInitialiser, TypedInitialisers}
 use Rattle.ck_tables.specs.Readings.{BodyReadings}
-use Rattle.ck_tables.specs.InitTable.{plain_init_facts, designators_of, designated_before, row_of, make, no_initialiser}
-use Rattle.ck_tables.specs.InitTable.{init_at, row_below, reads_below, IsOrdered, IsNode, Keeps}
+use Rattle.ck_tables.specs.InitTable.{plain_init_facts, designation_of, item_before, row_of, make, no_initialiser}
+use Rattle.ck_tables.specs.InitTable.{init_at, item_below, row_below, reads_below, IsOrdered, IsNode, Keeps}
 use Rattle.ck_tables.proofs.TableLemmas.{Agree, length-more, are_ordered_last, below_at, tree_in-more, stands_last}
 use Rattle.ck_tables.proofs.TableLemmas.{stands_at}
-use Rattle.ck_tables.specs.declared.inits.Designated.{Designated}
+use Rattle.ck_tables.specs.declared.inits.InitItem.{InitItem}
+use Rattle.ck_tables.specs.declared.inits.InitItem.TheVariants as items
 use Rattle.ck_tables.specs.declared.inits.InitNode.{InitNode}
 use Rattle.ck_tables.specs.declared.inits.InitNode.TheVariants as nodes
 
-row-same : (b : BodyReadings) (k : ℕ) (f g : ℕ → TypedInitialiser) (ds : List Designated) → Agree k f g
-    → row_below k ds ≡ true → row_of b f ds ≡ row_of b g ds
+item-same : (b : BodyReadings) (k : ℕ) (f g : ℕ → TypedInitialiser) (i : InitItem) (rest : TypedInitialisers)
+    → Agree k f g → item_below k i ≡ true → item_before b f i rest ≡ item_before b g i rest
+item-same b k f g (items.Plain initialiser) rest same h =
+    ap (λ t. bodies.Initialiser bodies.NoDesignators t rest) (same initialiser.0 (grind arith))
+item-same b k f g (items.Designated initialiser designation) rest same h =
+    ap (λ t. bodies.Initialiser (designation_of b designation.value) t rest) (same initialiser.0 (grind arith))
+
+row-same : (b : BodyReadings) (k : ℕ) (f g : ℕ → TypedInitialiser) (is : List InitItem) → Agree k f g
+    → row_below k is ≡ true → row_of b f is ≡ row_of b g is
 row-same b k f g [] same h = refl
-row-same b k f g (d ∷ ds) same h =
-    ap (λ t. bodies.Initialiser (designators_of b d.designators.items) t (row_of b f ds))
-    (same d.initialiser.0 (grind arith))
-    ∙ ap (designated_before b g d) (row-same b k f g ds same (grind arith))
+row-same b k f g (i ∷ is) same h =
+    item-same b k f g i (row_of b f is) same (grind arith)
+    ∙ ap (item_before b g i) (row-same b k f g is same (grind arith))
 
 make-same : (b : BodyReadings) (k : ℕ) (f g : ℕ → TypedInitialiser) (n : InitNode) → Agree k f g
     → reads_below k n ≡ true → make b f n ≡ make b g n
@@ -26,9 +33,16 @@ make-same b k f g (nodes.Value facts value) same h = refl
 make-same b k f g (nodes.Braces facts row) same h =
     ap (bodies.Braces (plain_init_facts b.readings facts)) (row-same b k f g row.items same h)
 
-row-more : (k l : ℕ) (ds : List Designated) → k ≤ l → row_below k ds ≡ true → row_below l ds ≡ true
+item-more : (k l : ℕ) (i : InitItem) → k ≤ l → item_below k i ≡ true → item_below l i ≡ true
+item-more k l (items.Plain initialiser) most h = grind arith
+item-more k l (items.Designated initialiser designation) most h = grind arith
+
+row-more : (k l : ℕ) (is : List InitItem) → k ≤ l → row_below k is ≡ true → row_below l is ≡ true
 row-more k l [] most h = refl
-row-more k l (d ∷ ds) most h = let more = row-more k l ds most (grind arith) in grind (arith, more)
+row-more k l (i ∷ is) most h =
+    let here = item-more k l i most (grind arith) in
+    let more = row-more k l is most (grind arith) in
+    grind (arith, here, more)
 
 keeping_rows : (ns ms : List InitNode) → length ns ≤ length ms
     → ((b : BodyReadings) (i : ℕ) → i < length ns → init_at b ms i ≡ init_at b ns i) → Keeps ns ms
@@ -36,8 +50,8 @@ keeping_rows ns ms most same =
     record {
       no_less = most;
       same = same;
-      same_row = λ b ds h. row-same b (length ns) (init_at b ms) (init_at b ns) ds (same b) h;
-      more_row = λ ds h. row-more (length ns) (length ms) ds most h;
+      same_row = λ b is h. row-same b (length ns) (init_at b ms) (init_at b ns) is (same b) h;
+      more_row = λ is h. row-more (length ns) (length ms) is most h;
     }
 
 pub keeps_more : (ns ms : List InitNode) → Keeps ns (ns ++ ms)

@@ -3,7 +3,7 @@ use Rattle.std.proofs.Common.{◌≡◌, ℕ, ◌<◌, ◌≤◌, List, [], ◌�
 use Rattle.std.specs.Prelude.{true}
 use Rattle.ck_prog.specs.TypedBodies as bodies
 use Rattle.ck_prog.specs.TypedBodies.{TypedStatement, TypedItems}
-use Rattle.ck_tables.specs.Readings.{BodyReadings}
+use Rattle.ck_tables.specs.Readings.{BodyReadings, plain_value}
 use Rattle.ck_tables.specs.StmtTable.{plain_start, plain_expression, item_before, items_of, make, no_statement}
 use Rattle.ck_tables.specs.StmtTable.{statement_at, item_below, items_below, reads_below, IsOrdered, IsNode, Keeps}
 use Rattle.ck_tables.proofs.TableLemmas.{Agree, length-more, are_ordered_last, below_at, tree_in-more, stands_last}
@@ -45,7 +45,8 @@ make-same b k f g (nodes.For keyword start test step body) same h =
     ap (bodies.For keyword (plain_start b start) (plain_expression b test) (plain_expression b step))
     (same body.0 (grind arith))
 make-same b k f g (nodes.Case keyword in_switch value converted labelled) same h =
-    ap (bodies.Case keyword in_switch (b.expr_of value.0) converted) (same labelled.0 (grind arith))
+    ap (bodies.Case keyword in_switch (b.expr_of value.0) (plain_value b.readings converted))
+    (same labelled.0 (grind arith))
 make-same b k f g (nodes.Default keyword in_switch labelled) same h =
     ap (bodies.Default keyword in_switch) (same labelled.0 (grind arith))
 make-same b k f g (nodes.Label name text labelled) same h =
@@ -113,7 +114,8 @@ is_node_kept ns ms i n h kept was =
           λ b.
           kept.same b i h
           ∙ was.tree b
-          ∙ sym (make-same b i (statement_at b ms) (statement_at b ns) n (λ j less. kept.same b j (omega arith)) was.below);
+          ∙ sym
+          (make-same b i (statement_at b ms) (statement_at b ns) n (λ j less. kept.same b j (omega arith)) was.below);
     }
 
 pub ruleset growing = (keeps_none, keeps_more, is_ordered_last, is_node_last)

@@ -2,6 +2,7 @@
 use Rattle.std.proofs.Common.{◌≡◌, ℕ, zero, suc, ◌+◌, ◌<◌, ◌≤◌, List, [], ◌∷◌, ◌++◌, length, get_or, refl, ap, subst}
 use Rattle.std.proofs.Common.{arith, sym, ◌∙◌, append_assoc}
 use Rattle.std.specs.Prelude.{Bool, true}
+use Rattle.ck_tables.specs.Rows.{IsRow}
 use Rattle.ck_tables.specs.Tables.{nth, trees_after, tree_in, ordered_from, AreOrdered}
 
 -- two functions say the same of numbers below one
@@ -25,6 +26,14 @@ module _ {X : Type 0} where
   nth-last : (none : X) (xs : List X) (x : X) → nth none (xs ++ (x ∷ [])) (length xs) ≡ x
   nth-last none [] x = refl
   nth-last none (y ∷ xs) x = nth-last none xs x
+
+  get_or-any : (xs : List X) (i : ℕ) (d e : X) → i < length xs → get_or xs i d ≡ get_or xs i e
+  get_or-any [] i d e h = grind arith
+  get_or-any (x ∷ xs) zero d e h = refl
+  get_or-any (x ∷ xs) (suc i) d e h = get_or-any xs i d e (omega arith)
+
+  pub is_row_at : (xs : List X) (i : ℕ) (x : X) → i < length xs → x ≡ get_or xs i x → IsRow xs i x
+  is_row_at xs i x h at = record { within = h; is = λ d. get_or-any xs i d x h ∙ sym at }
 
 module _ {Node : Type 0} (below : ℕ → Node → Bool) where
   ordered-last : (k : ℕ) (ns : List Node) (n : Node) → ordered_from below k ns ≡ true
@@ -146,7 +155,8 @@ module _ {Tree Node : Type 0} (none : Tree) (make : (ℕ → Tree) → Node → 
       let more = stands-from (front ++ (n ∷ [])) ns i d later (omega arith) in
       subst (λ all. tree_in none make all (length front + suc i) ≡ make (tree_in none make all) m)
       (append_assoc front (n ∷ []) ns)
-      (subst (λ k. tree_in none make ((front ++ (n ∷ [])) ++ ns) k ≡ make (tree_in none make ((front ++ (n ∷ [])) ++ ns)) m)
+      (subst
+      (λ k. tree_in none make ((front ++ (n ∷ [])) ++ ns) k ≡ make (tree_in none make ((front ++ (n ∷ [])) ++ ns)) m)
       k more)
 
   -- each number of a table stands for its node's tree

@@ -33,7 +33,8 @@ module _ {A : Type 0} where
   length-lists [] = refl
   length-lists (v ∷ vs) = ap suc (length-lists vs)
 
-  pub lists-last : (vs : List (Vec FnId A)) (v : Vec FnId A) → map vec_items (vs ++ (v ∷ [])) ≡ map vec_items vs ++ (v.items ∷ [])
+  pub lists-last : (vs : List (Vec FnId A)) (v : Vec FnId A)
+      → map vec_items (vs ++ (v ∷ [])) ≡ map vec_items vs ++ (v.items ∷ [])
   lists-last [] v = refl
   lists-last (x ∷ vs) v = ap (λ ns. x.items ∷ ns) (lists-last vs v)
 

@@ -1,5 +1,5 @@
--- Which declarations the rows of a project's declarations stand for, where the numbers of types, names, structs and members
--- are read.
+-- Which declarations the rows of a project's declarations stand for, where the numbers of types, names, structs and
+-- members are read.
 use Rattle.std.specs.Prelude.{ℕ, List, Option, Some, None}
 use Rattle.ck_types.specs.Types.{CType, StructIdentity, ByTag, ByTypedef, ByPlace, ByMember, ByParameter}
 use Rattle.ck_prog.specs.Declarations as plain

@@ -15,7 +15,7 @@ use Rattle.ck_tables.specs.declared.facts.Facts.{Facts}
 pub record HasFacts (ns : List ExprNode) (i : ℕ) (facts : Facts) : Type 0 where
   pub are : (w : Readings) → trees.facts (tree_at w ns i) ≡ plain_facts w facts
 
--- Private --------------------------------------------------------------------------------------------------------------
+-- Private -------------------------------------------------------------------------------------------------------------
 
 abbrev pub step_facts : Step → Facts
 step_facts (steps.Index opening index facts) = facts

@@ -52,7 +52,7 @@ abbrev pub part_before : Readings → (ℕ → Typed) → Part → TypeParts →
 part_before w f (parts.Mention keyword tag entry) rest = trees.Mention keyword tag (plain_entry w entry) rest
 part_before w f (parts.StructBody keyword layout) rest = trees.StructBody keyword (plain_layout layout) rest
 part_before w f (parts.EnumeratorValue spot constancy) rest =
-    trees.EnumeratorValue spot (plain_constancy constancy) rest
+    trees.EnumeratorValue spot (plain_constancy w constancy) rest
 part_before w f (parts.Expression x) rest = trees.Expression (f x.0) rest
 part_before w f (parts.ArraySize size too_large) rest = trees.ArraySize (f size.0) too_large rest
 part_before w f (parts.Declarator facts) rest = trees.WholeDeclarator (plain_declarator w facts) rest
@@ -72,7 +72,7 @@ make w f (nodes.Paren facts inner) = trees.Paren (plain_facts w facts) (f inner.
 make w f (nodes.Postfix primary row) = trees.Postfix (f primary.0) (steps_of w f row.items)
 make w f (nodes.Unary facts operator operand) = trees.Unary (plain_facts w facts) operator (f operand.0)
 make w f (nodes.SizeofType facts written) = trees.SizeofType (plain_facts w facts) (parts_of w f written.items)
-make w f (nodes.Cast facts written operand) =
+make w f (nodes.Cast facts operand written) =
     trees.Cast (plain_facts w facts) (parts_of w f written.items) (f operand.0)
 make w f (nodes.Chain first links) = trees.Chain (f first.0) (links_of w f links.items)
 make w f (nodes.Conditional facts test second third) =
@@ -98,7 +98,7 @@ no_tree =
 abbrev pub tree_at : Readings → List ExprNode → ℕ → Typed
 tree_at w ns i = tree_in no_tree (make w) ns i
 
--- which numbers a node names --------------------------------------------------------------------------------------------
+-- which numbers a node names ------------------------------------------------------------------------------------------
 
 abbrev pub links_below : ℕ → List Link → Bool
 links_below limit [] = true
@@ -139,7 +139,7 @@ reads_below limit (nodes.Paren facts inner) = nat_lt inner.0 limit
 reads_below limit (nodes.Postfix primary row) = nat_lt primary.0 limit && steps_below limit row.items
 reads_below limit (nodes.Unary facts operator operand) = nat_lt operand.0 limit
 reads_below limit (nodes.SizeofType facts written) = parts_below limit written.items
-reads_below limit (nodes.Cast facts written operand) = parts_below limit written.items && nat_lt operand.0 limit
+reads_below limit (nodes.Cast facts operand written) = parts_below limit written.items && nat_lt operand.0 limit
 reads_below limit (nodes.Chain first links) = nat_lt first.0 limit && links_below limit links.items
 reads_below limit (nodes.Conditional facts test second third) =
     nat_lt test.0 limit && (nat_lt second.0 limit && nat_lt third.0 limit)
@@ -149,7 +149,8 @@ reads_below limit (nodes.Assignment facts operator target value) = nat_lt target
 abbrev pub IsOrdered : List ExprNode → Type 0
 IsOrdered ns = AreOrdered reads_below ns
 
--- A table has this node at this number, and it stands for the node's tree, whatever the other tables' numbers stand for.
+-- A table has this node at this number, and it stands for the node's tree, whatever the other tables' numbers stand
+-- for.
 pub record IsNode (ns : List ExprNode) (i : ℕ) (n : ExprNode) : Type 0 where
   pub below : reads_below i n ≡ true
   pub tree : (w : Readings) → tree_at w ns i ≡ make w (tree_at w ns) n

@@ -1,5 +1,7 @@
 -- What is promised: what the numbers of tables stand for
+pub mod ProgramRows
 pub mod Program
+pub mod Numbers
 pub mod Laws
 pub mod Targets
 pub mod NameList
@@ -9,6 +11,7 @@ pub mod Rows
 pub mod Readings
 pub mod Entries
 pub mod ExprTable
+pub mod SubobjectTable
 pub mod InitTable
 pub mod StmtTable
 pub mod ExprFacts

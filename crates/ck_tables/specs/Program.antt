@@ -1,5 +1,5 @@
 -- What the numbers of a linked project stand for, each table over those before it; and the typed trees of its files.
-use Rattle.std.specs.Prelude.{ℕ, zero, suc, false, List, [], ◌∷◌, None, map}
+use Rattle.std.specs.Prelude.{ℕ, zero, suc, ℤ, pos, false, List, [], ◌∷◌, None, map}
 use Rattle.ck_prog.specs.Declarations.{Entry, Label, MemberOf}
 use Rattle.ck_prog.specs.Slots as slots
 use Rattle.ck_prog.specs.Slots.{Slot, SlotOf}
@@ -14,6 +14,7 @@ use Rattle.ck_tables.specs.InitTable.{no_initialiser, init_at}
 use Rattle.ck_tables.specs.Readings.{Readings, BodyReadings}
 use Rattle.ck_tables.specs.StmtTable.{plain_declared_facts, plain_declaration, items_of, statement_at}
 use Rattle.ck_tables.specs.Tables.{tree_in}
+use Rattle.ck_tables.specs.SubobjectTable.{path_at}
 use Rattle.ck_tables.specs.declared.program.Body.{Body}
 use Rattle.ck_tables.specs.declared.program.External.{External}
 use Rattle.ck_tables.specs.declared.program.External.TheVariants as externals
@@ -29,7 +30,7 @@ read none plain [] i = none
 read none plain (x ∷ xs) zero = plain x
 read none plain (x ∷ xs) (suc i) = read none plain xs i
 
--- names, structs, types, members and declarations ---------------------------------------------------------------------
+-- names, values, structs, types, members and declarations -------------------------------------------------------------
 
 abbrev pub name_of : Linked → ℕ → List ℕ
 name_of l i = read [] (λ n. n) l.names i
@@ -39,6 +40,9 @@ struct_of l i = tree_in (ByPlace 0 0) (plain_struct (name_of l)) l.structs.rows.
 
 abbrev pub type_of : Linked → ℕ → CType
 type_of l i = type_at (entries_of (struct_of l) l.types) i
+
+abbrev pub value_of : Linked → ℕ → ℤ
+value_of l i = read (pos 0) (λ v. v) l.values.rows.items i
 
 abbrev pub no_member : MemberOf
 no_member = record { of = ByPlace 0 0; type = None; offset = None; front = None; constant = false }
@@ -56,10 +60,18 @@ no_entry = record { file = 0; scope = []; name = []; at = no_token; meaning = La
 abbrev pub entry_of : Linked → ℕ → Entry
 entry_of l i = read no_entry (plain_entry (entry_readings l)) l.entries.rows.items i
 
--- expressions, initialisers and declarations ----------------------------------------------------------------------------
+-- expressions, initialisers and declarations --------------------------------------------------------------------------
 
 abbrev pub readings : Linked → Readings
-readings l = record { type_of = type_of l; entry_of = entry_of l; member_of = member_of l; name_of = name_of l }
+readings l =
+    record {
+      type_of = type_of l;
+      entry_of = entry_of l;
+      member_of = member_of l;
+      name_of = name_of l;
+      value_of = value_of l;
+      path_of = path_at l.subobjects;
+    }
 
 -- where initialisers and declarations aren't read yet
 abbrev pub with_expressions : Linked → BodyReadings
@@ -82,7 +94,7 @@ declaration_of l i =
 abbrev pub body_readings : Linked → BodyReadings
 body_readings l = record (with_initialisers l) { declaration_of = declaration_of l }
 
--- functions and files ---------------------------------------------------------------------------------------------------
+-- functions and files -------------------------------------------------------------------------------------------------
 
 abbrev pub plain_body : Linked → Body → TypedFunction
 plain_body l f =
@@ -113,7 +125,7 @@ plain_file l f = map (plain_external l) f.externals.items
 abbrev pub files : Linked → List (List TypedExternal)
 files l = map (plain_file l) l.files.rows.items
 
--- slots -----------------------------------------------------------------------------------------------------------------
+-- slots ---------------------------------------------------------------------------------------------------------------
 
 abbrev pub plain_kind : (ℕ → StructIdentity) → SlotKind → SlotOf
 plain_kind struct_of kinds.Variable = slots.OfVariable

@@ -1,5 +1,5 @@
 -- What a table's values stand for, where the numbers of types, declarations and members are read.
-use Rattle.std.specs.Prelude.{ℕ, List, Option, Some, None, pos}
+use Rattle.std.specs.Prelude.{ℕ, ℤ, List, Option, Some, None}
 use Rattle.ck_types.specs.Types.{CType, Qualifiers}
 use Rattle.ck_types.specs.declared.types.Qualifiers.{Qualifiers as Written}
 use Rattle.ck_types.specs.declared.types.TypeId.{TypeId}
@@ -20,6 +20,7 @@ use Rattle.ck_tables.specs.declared.facts.MemberId.{MemberId}
 use Rattle.ck_tables.specs.declared.facts.Owner.{Owner}
 use Rattle.ck_tables.specs.declared.facts.Owner.TheVariants as owners
 use Rattle.ck_tables.specs.declared.facts.QualifiedType.{QualifiedType}
+use Rattle.ck_tables.specs.declared.facts.ValueId.{ValueId}
 
 -- what the numbers of a project's other tables stand for
 pub record Readings : Type 0 where
@@ -27,6 +28,9 @@ pub record Readings : Type 0 where
   pub entry_of : ℕ → Entry
   pub member_of : ℕ → MemberOf
   pub name_of : ℕ → List ℕ
+  pub value_of : ℕ → ℤ
+  -- the path to a part of an object that is initialised
+  pub path_of : ℕ → List ℕ
 
 -- and those of its expressions, initialisers and declarations
 pub record BodyReadings : Type 0 where
@@ -50,11 +54,14 @@ abbrev pub plain_member : Readings → Option MemberId → Option MemberOf
 plain_member w None = None
 plain_member w (Some m) = Some (w.member_of m.0)
 
-abbrev pub plain_constancy : Constancy → senses.Constancy
-plain_constancy constancies.Varying = senses.Varying
-plain_constancy constancies.Valueless = senses.Valueless
-plain_constancy (constancies.Signed value) = senses.Known value
-plain_constancy (constancies.Unsigned value) = senses.Known (pos value)
+abbrev pub plain_value : Readings → Option ValueId → Option ℤ
+plain_value w None = None
+plain_value w (Some v) = Some (w.value_of v.0)
+
+abbrev pub plain_constancy : Readings → Constancy → senses.Constancy
+plain_constancy w constancies.Varying = senses.Varying
+plain_constancy w constancies.Valueless = senses.Valueless
+plain_constancy w (constancies.Known value) = senses.Known (w.value_of value.0)
 
 abbrev pub plain_facts : Readings → Facts → trees.Facts
 plain_facts w f =
@@ -64,7 +71,7 @@ plain_facts w f =
             type = plain_type w f.type_id;
             qualifiers = plain_qualifiers f.qualifiers;
             lvalue = f.lvalue;
-            constancy = plain_constancy f.constancy;
+            constancy = plain_constancy w f.constancy;
             null = f.null;
             fixed = f.fixed;
             register = f.register;

@@ -1,5 +1,5 @@
--- Which typed trees the numbers of a table of statements stand for: each node over the trees of the nodes before it. And
--- which a declaration stands for.
+-- Which typed trees the numbers of a table of statements stand for: each node over the trees of the nodes before it.
+-- And which a declaration stands for.
 use Rattle.std.specs.Prelude.{◌≡◌, ◌<◌, ◌≤◌, ℕ, Bool, true, ◌&&◌, nat_lt}
 use Rattle.std.specs.Prelude.{List, [], ◌∷◌, length, Option, Some, None}
 use Rattle.ck_prog.specs.TypedBodies as bodies
@@ -7,7 +7,7 @@ use Rattle.ck_prog.specs.TypedBodies.{TypedInitialiser, TypedDeclarators, TypedD
 use Rattle.ck_prog.specs.TypedBodies.{TypedStatement, TypedItems}
 use Rattle.ck_prog.specs.TypedTrees.{Typed}
 use Rattle.ck_tables.specs.ExprTable.{no_token, parts_of}
-use Rattle.ck_tables.specs.Readings.{Readings, BodyReadings, plain_type}
+use Rattle.ck_tables.specs.Readings.{Readings, BodyReadings, plain_type, plain_value}
 use Rattle.ck_tables.specs.Tables.{tree_in, AreOrdered}
 use Rattle.ck_tables.specs.declared.exprs.ExprId.{ExprId}
 use Rattle.ck_tables.specs.declared.inits.InitId.{InitId}
@@ -43,7 +43,7 @@ abbrev pub plain_declaration : BodyReadings → Declaration → TypedDeclaration
 plain_declaration b d =
     bodies.Declaration d.first (parts_of b.readings b.expr_of d.written.items) (declarators_of b d.declared.items)
 
--- parts of statements ---------------------------------------------------------------------------------------------------
+-- parts of statements -------------------------------------------------------------------------------------------------
 
 abbrev pub plain_start : BodyReadings → Start → TypedStart
 plain_start b starts.Empty = bodies.StartEmpty
@@ -83,7 +83,7 @@ make b f (nodes.Do keyword body test) = bodies.Do keyword (f body.0) (b.expr_of 
 make b f (nodes.For keyword start test step body) =
     bodies.For keyword (plain_start b start) (plain_expression b test) (plain_expression b step) (f body.0)
 make b f (nodes.Case keyword in_switch value converted labelled) =
-    bodies.Case keyword in_switch (b.expr_of value.0) converted (f labelled.0)
+    bodies.Case keyword in_switch (b.expr_of value.0) (plain_value b.readings converted) (f labelled.0)
 make b f (nodes.Default keyword in_switch labelled) = bodies.Default keyword in_switch (f labelled.0)
 make b f (nodes.Label name text labelled) = bodies.Label name (b.readings.name_of text.0) (f labelled.0)
 make b f (nodes.Goto keyword text) = bodies.Goto keyword (b.readings.name_of text.0)
@@ -100,7 +100,7 @@ no_statement = bodies.Empty (no_token)
 abbrev pub statement_at : BodyReadings → List StmtNode → ℕ → TypedStatement
 statement_at b ns i = tree_in no_statement (make b) ns i
 
--- which numbers a node names --------------------------------------------------------------------------------------------
+-- which numbers a node names ------------------------------------------------------------------------------------------
 
 abbrev pub item_below : ℕ → Item → Bool
 item_below limit (items.Declaration d) = true
@@ -134,7 +134,8 @@ reads_below limit (nodes.ReturnValue keyword result value) = true
 abbrev pub IsOrdered : List StmtNode → Type 0
 IsOrdered ns = AreOrdered reads_below ns
 
--- A table has this node at this number, and it stands for the node's tree, whatever the other tables' numbers stand for.
+-- A table has this node at this number, and it stands for the node's tree, whatever the other tables' numbers stand
+-- for.
 pub record IsNode (ns : List StmtNode) (i : ℕ) (n : StmtNode) : Type 0 where
   pub below : reads_below i n ≡ true
   pub tree : (b : BodyReadings) → statement_at b ns i ≡ make b (statement_at b ns) n

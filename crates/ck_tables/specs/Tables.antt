@@ -1,5 +1,6 @@
--- A table of nodes, each over the nodes before it: what its numbers stand for, by one fold. `make` gives a node's tree where
--- a function says what the numbers that it names stand for, and `below` tells that it names smaller numbers than one.
+-- A table of nodes, each over the nodes before it: what its numbers stand for, by one fold. `make` gives a node's tree
+-- where a function says what the numbers that it names stand for, and `below` tells that it names smaller numbers than
+-- one.
 use Rattle.std.specs.Prelude.{◌≡◌, ℕ, zero, suc, Bool, true, ◌&&◌, List, [], ◌∷◌, ◌++◌}
 
 -- the tree of a number, or one for the numbers that no node has

@@ -1,5 +1,6 @@
 -- Which functions calls and slots may reach: each names a list of functions by its number.
-use Rattle.std.specs.Prelude.{◌≡◌, ℕ, zero, suc, Bool, true, ◌&&◌, nat_lt, List, [], ◌∷◌, ◌++◌, length, map, vec_items, Vec}
+use Rattle.std.specs.Prelude.{◌≡◌, ℕ, zero, suc, Bool, true, ◌&&◌, nat_lt}
+use Rattle.std.specs.Prelude.{List, [], ◌∷◌, ◌++◌, length, map, vec_items, Vec}
 use Rattle.ck_base.specs.declared.spans.FnId.{FnId}
 use Rattle.ck_tables.specs.Tables.{nth}
 use Rattle.ck_tables.specs.declared.targets.ListId.{ListId}

@@ -1,6 +1,7 @@
 //! The expressions of a project, each over those before it.
 ghost use Rattle.std.specs.Prelude.{◌≡◌, ◌<◌, true, [], ◌∷◌, ◌++◌, length, IfOk, OnOk, OnErr};
 ghost use Rattle.ck_tables.specs.ExprTable as spec;
+ghost use Rattle.ck_tables.specs.Rows.{IsRow};
 
 use crate::facts::{Constancy, DeclaratorFacts, EntryId, Facts, Layout, MemberId};
 use ck_base::{OutOfMemory, Token};
@@ -8,6 +9,7 @@ use ck_prog::{Assigning, Operator, Prefix};
 use smallvec::SmallVec;
 use std::alloc::Global;
 use std::marker::Model;
+use std::mem::size_of;
 
 /// The number of an expression in a project's table of expressions.
 #[derive(Clone, Copy, Debug, PartialEq, Eq)]
@@ -37,7 +39,7 @@ pub enum Step {
     Call {
         opening: Token,
         function: Option<EntryId>,
-        arguments: SmallVec<ExprId, 2>,
+        arguments: SmallVec<ExprId, 4>,
         facts: Facts,
     },
     /// `.` or else `->`, the member's name, and the member (6.5.2.3)
@@ -126,8 +128,8 @@ pub enum ExprNode {
     /// a cast, and what is written in its type (6.5.4)
     Cast {
         facts: Facts,
-        written: Vec<Part>,
         operand: ExprId,
+        written: Vec<Part>,
     },
     /// a first operand, and operators with their right operands (6.5.5 to 6.5.14, 6.5.17)
     Chain {
@@ -150,8 +152,15 @@ pub enum ExprNode {
     },
 }
 
-/// The expressions of a project. It is seen as the list of its nodes, each of which names smaller numbers alone; which typed
-/// trees its numbers stand for is in `specs/ExprTable.antt`.
+// what a node, a suffix and a further operand take (docs/DECISIONS.md, "Tables of a project")
+const _: () = prove!(size_of::<ExprNode>() == 72);
+
+const _: () = prove!(size_of::<Step>() == 104);
+
+const _: () = prove!(size_of::<Link>() == 48);
+
+/// The expressions of a project. It is seen as the list of its nodes, each of which names smaller numbers alone; which
+/// typed trees its numbers stand for is in `specs/ExprTable.antt`.
 #[derive(Drop)]
 pub struct Exprs {
     nodes: Vec<ExprNode>,
@@ -200,6 +209,7 @@ impl Exprs {
     /// An expression by its number. It names smaller numbers alone.
     pub fn node(&self, id: ExprId) -> &ExprNode
         requires { id.0 < length self.now }
+        ensures row { IsRow self.now id.0 result.now }
         ensures meaning { spec.IsNode self.now id.0 result.now }
     {
         &self.nodes[id.0 as usize]

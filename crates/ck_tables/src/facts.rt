@@ -15,6 +15,10 @@ pub struct MemberId(pub u32);
 #[derive(Clone, Copy, Debug, PartialEq, Eq)]
 pub struct NameId(pub u32);
 
+/// The number of a value in a project's table of values.
+#[derive(Clone, Copy, Debug, PartialEq, Eq)]
+pub struct ValueId(pub u32);
+
 /// Whether an expression is an integer constant expression (6.6), and of which value: one of its type.
 #[derive(Clone, Copy)]
 pub enum Constancy {
@@ -22,10 +26,8 @@ pub enum Constancy {
     Varying,
     /// yes but without a value, as `1/0`
     Valueless,
-    /// yes, of a value that is kept as `i64`
-    Signed(i64),
-    /// yes, of a value that is kept as `u64`
-    Unsigned(u64),
+    /// yes, of the value of this number
+    Known(ValueId),
 }
 
 /// What is known of a value.

@@ -1,35 +1,43 @@
 //! The initialisers of a project (6.7.8), each over those before it.
 ghost use Rattle.std.specs.Prelude.{◌≡◌, ◌<◌, true, [], ◌∷◌, ◌++◌, length, IfOk, OnOk, OnErr};
 ghost use Rattle.ck_tables.specs.InitTable as spec;
+ghost use Rattle.ck_tables.specs.Rows.{IsRow};
 
 use crate::exprs::ExprId;
 use crate::facts::MemberId;
+use crate::subobjects::SubobjectId;
 use ck_base::{OutOfMemory, Token};
 use ck_types::TypeId;
-use smallvec::SmallVec;
 use std::alloc::Global;
 use std::marker::Model;
+use std::mem::size_of;
 
 /// The number of an initialiser in a project's table of initialisers.
 #[derive(Clone, Copy, Debug, PartialEq, Eq)]
 pub struct InitId(pub u32);
 
 /// The object that is initialised, or a part of it.
-#[derive(Drop)]
-pub struct InitObject {
-    /// the numbers of the parts that lead to it from the whole object: members and elements from 0
-    pub path: SmallVec<u32, 4>,
-    /// its type, where there is one
-    pub type_id: Option<TypeId>,
-    /// the last member on the path, if any
-    pub member: Option<MemberId>,
+#[derive(Clone, Copy)]
+pub enum InitObject {
+    /// there is no such part
+    Missing,
+    /// the whole object, with its type, where there is one
+    Whole {
+        type_id: Option<TypeId>,
+    },
+    /// a part, with its type, where there is one, and the last member on the path to it, if any
+    Part {
+        part: SubobjectId,
+        type_id: Option<TypeId>,
+        member: Option<MemberId>,
+    },
 }
 
 /// What is known of an initialiser.
-#[derive(Drop)]
+#[derive(Clone, Copy)]
 pub struct InitFacts {
-    /// the object or part that it is for; none where there is no such part
-    pub object: Option<InitObject>,
+    /// the object or part that it is for
+    pub object: InitObject,
     /// where it begins
     pub first: Token,
     /// the whole object has static storage duration
@@ -53,13 +61,27 @@ pub enum Designator {
     },
 }
 
-/// An initialiser in braces, with its designators.
+/// The designators before `=`.
 #[derive(Drop)]
-pub struct Designated {
-    /// the designators before `=`, if any
-    pub designators: SmallVec<Designator, 1>,
-    /// the initialiser
-    pub initialiser: InitId,
+pub struct Designation {
+    /// the first
+    pub first: Designator,
+    /// those after it
+    pub others: Vec<Designator>,
+}
+
+/// An initialiser of a list in braces.
+#[derive(Drop)]
+pub enum InitItem {
+    /// without designators
+    Plain {
+        initialiser: InitId,
+    },
+    /// with designators
+    Designated {
+        initialiser: InitId,
+        designation: Box<Designation>,
+    },
 }
 
 /// An initialiser over those before it.
@@ -73,9 +95,16 @@ pub enum InitNode {
     /// initialisers in braces
     Braces {
         facts: InitFacts,
-        row: Vec<Designated>,
+        row: Vec<InitItem>,
     },
 }
+
+// what an initialiser takes, and its place in a list (docs/DECISIONS.md, "Tables of a project")
+const _: () = prove!(size_of::<InitNode>() == 72);
+
+const _: () = prove!(size_of::<InitItem>() == 16);
+
+const _: () = prove!(size_of::<Designation>() == 56);
 
 /// The initialisers of a project. It is seen as the list of its nodes, each of which names smaller numbers alone; which
 /// typed trees its numbers stand for is in `specs/InitTable.antt`.
@@ -127,6 +156,7 @@ impl Inits {
     /// An initialiser by its number. It names smaller numbers alone.
     pub fn node(&self, id: InitId) -> &InitNode
         requires { id.0 < length self.now }
+        ensures row { IsRow self.now id.0 result.now }
         ensures meaning { spec.IsNode self.now id.0 result.now }
     {
         &self.nodes[id.0 as usize]

@@ -36,8 +36,8 @@ impl Names {
         }
     }
 
-    /// The number of a name, which is added where it is new. Names with the same bytes have the same number, and others have
-    /// others.
+    /// The number of a name, which is added where it is new. Names with the same bytes have the same number, and others
+    /// have others.
     pub fn number(&mut self, alloc: Global, text: &str) -> Result<NameId, OutOfMemory>
         ensures kept { spec.Extends self.old self.new }
         ensures name { IfOk result (λ id. spec.IsName self.new id.0 text.now) }

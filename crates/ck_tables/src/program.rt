@@ -5,8 +5,9 @@ use crate::inits::Inits;
 use crate::names::Names;
 use crate::rows::Rows;
 use crate::stmts::{Declaration, DeclarationId, DeclaredFacts, Item, Stmts};
+use crate::subobjects::Subobjects;
 use ck_base::{FnId, Token};
-use ck_types::{StructId, Types};
+use ck_types::{StructId, TypeId, Types};
 use smallvec::SmallVec;
 
 /// A function with a body (6.9.1).
@@ -56,6 +57,8 @@ pub struct SlotInfo {
     pub of: SlotKind,
     /// the name that first declares it
     pub at: Token,
+    /// the type of the variable, the member or the result
+    pub type_id: TypeId,
 }
 
 /// A project whose names are linked. What its numbers stand for is in `specs/Program.antt`.
@@ -65,6 +68,8 @@ pub struct Linked {
     pub types: Types,
     /// its names, each once
     pub names: Names,
+    /// the values of its constant expressions and labels, by `ValueId`
+    pub values: Rows<i128>,
     /// its structs, by `StructId`; each names structs of smaller numbers alone
     pub structs: Rows<StructName>,
     /// the members of its structs, by `MemberId`
@@ -73,6 +78,8 @@ pub struct Linked {
     pub entries: Rows<EntryInfo>,
     /// its expressions
     pub exprs: Exprs,
+    /// the parts of the objects that it initialises
+    pub subobjects: Subobjects,
     /// its initialisers
     pub inits: Inits,
     /// its declarations as they are written, by `DeclarationId`

@@ -1,14 +1,16 @@
 //! The declarations and statements of a project (6.7, 6.8), each statement over those before it.
 ghost use Rattle.std.specs.Prelude.{◌≡◌, ◌<◌, true, [], ◌∷◌, ◌++◌, length, IfOk, OnOk, OnErr};
 ghost use Rattle.ck_tables.specs.StmtTable as spec;
+ghost use Rattle.ck_tables.specs.Rows.{IsRow};
 
 use crate::exprs::{ExprId, Part};
-use crate::facts::{EntryId, NameId};
+use crate::facts::{EntryId, NameId, ValueId};
 use crate::inits::InitId;
 use ck_base::{OutOfMemory, Token};
 use ck_types::TypeId;
 use std::alloc::Global;
 use std::marker::Model;
+use std::mem::size_of;
 
 /// The number of a declaration in a project's list of written declarations.
 #[derive(Clone, Copy, Debug, PartialEq, Eq)]
@@ -130,12 +132,12 @@ pub enum StmtNode {
         step: Option<ExprId>,
         body: StmtId,
     },
-    /// whether it is in a `switch`, and the value of the label in the type of the `switch` (6.8.1)
+    /// whether it is in a `switch`, and the value of the label in the type of the `switch`, if it has one (6.8.1)
     Case {
         keyword: Token,
         in_switch: bool,
         value: ExprId,
-        converted: Option<i128>,
+        converted: Option<ValueId>,
         labelled: StmtId,
     },
     /// whether it is in a `switch` (6.8.1)
@@ -173,8 +175,11 @@ pub enum StmtNode {
     },
 }
 
-/// The statements of a project. It is seen as the list of its nodes, each of which names smaller numbers alone; which typed
-/// trees its numbers stand for is in `specs/StmtTable.antt`.
+// what a statement takes
+const _: () = prove!(size_of::<StmtNode>() == 48);
+
+/// The statements of a project. It is seen as the list of its nodes, each of which names smaller numbers alone; which
+/// typed trees its numbers stand for is in `specs/StmtTable.antt`.
 #[derive(Drop)]
 pub struct Stmts {
     nodes: Vec<StmtNode>,
@@ -223,6 +228,7 @@ impl Stmts {
     /// A statement by its number. It names smaller numbers alone.
     pub fn node(&self, id: StmtId) -> &StmtNode
         requires { id.0 < length self.now }
+        ensures row { IsRow self.now id.0 result.now }
         ensures meaning { spec.IsNode self.now id.0 result.now }
     {
         &self.nodes[id.0 as usize]

@@ -10,8 +10,8 @@ use std::marker::Model;
 #[derive(Clone, Copy, Debug, PartialEq, Eq)]
 pub struct ListId(pub u32);
 
-/// The functions that each numbered call and each slot may reach. Calls and slots that reach the same functions share their
-/// list.
+/// The functions that each numbered call and each slot may reach. Calls and slots that reach the same functions share
+/// their list.
 #[derive(Drop)]
 pub struct Targets {
     lists: Vec<Vec<FnId>>,

@@ -6,7 +6,8 @@ use Rattle.ck_tables.proofs.targets.Targets.of_call.Goals as goal
 pub index-requires-2 : goal.index-requires-2
 index-requires-2 c =
     let known = subst (λ t. c.args.call < length t.calls) (sym c.self.view_is) c.requires in
-    let less = names_list c.self.inside.lists.items c.self.inside.calls.items c.args.call c.index.result.now c.index.ensures known
+    let less = names_list c.self.inside.lists.items c.self.inside.calls.items c.args.call c.index.result.now
+    c.index.ensures known
     c.self.invariant.calls in
     grind (arith, less)
 

@@ -1,0 +1,7 @@
+use Rattle.ck_tables.proofs.ProgramLemmas.{initialiser_of_closed}
+use Rattle.ck_tables.proofs.typed.Program.initialiser.Goals as goal
+
+pub returns-clause-fits : goal.returns-clause-fits
+returns-clause-fits c =
+    let p = c.args.self.now in
+    initialiser_of_closed p.linked c.args.id.0 c.node.result.now p.closed c.node.ensures.row

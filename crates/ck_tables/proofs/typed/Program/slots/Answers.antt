@@ -1,0 +1,8 @@
+use Rattle.ck_tables.specs.ProgramRows.{slot_of}
+use Rattle.ck_tables.proofs.ProgramLemmas.{length_mapped}
+use Rattle.ck_tables.proofs.typed.Program.slots.Goals as goal
+
+pub returns : goal.returns
+returns c =
+    let p = c.args.self.now in
+    length_mapped (slot_of p.linked) p.rows.slots.rows.items c.as_slice.result.now c.as_slice.ensures

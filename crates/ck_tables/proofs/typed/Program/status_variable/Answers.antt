@@ -1,0 +1,13 @@
+use Rattle.std.proofs.Common.{◌<◌, subst, sym}
+use Rattle.ck_tables.proofs.ProgramLemmas.{as_many_statuses, status_of_rows}
+use Rattle.ck_tables.proofs.typed.Program.status_variable.Goals as goal
+
+pub row-requires : goal.row-requires
+row-requires c =
+    let p = c.args.self.now in
+    subst (λ k. c.args.id.0 < k) (sym (as_many_statuses p.linked p.rows p.fitting)) c.requires
+
+pub returns-clause-fits : goal.returns-clause-fits
+returns-clause-fits c =
+    let p = c.args.self.now in
+    status_of_rows p.linked p.rows c.args.id.0 c.row.result.now p.fitting c.row.ensures
