@@ -112,4 +112,6 @@ pub counted-unknown : (so_far : ℕ) (rest : Option ℕ) → Counted so_far (tim
 counted-unknown so_far rest = refl
 
 pub counted-all : (so_far : ℕ) → so_far ≤ 2 ^ 64 - 1 → Counted so_far (Some 1) ≡ Some so_far
-counted-all so_far h = let same : saturated (so_far * 1) ≡ so_far = rw (mul-one so_far) (grind (arith, h)) in ap Some same
+counted-all so_far h =
+    let same : saturated (so_far * 1) ≡ so_far = rw (mul-one so_far) (grind (arith, h)) in
+    ap Some same

@@ -3,6 +3,7 @@ use Rattle.std.proofs.Common.{◌≡◌, ℕ, refl, arith, Bool, true, false, Li
 use Rattle.std.specs.Prelude.{◌&&◌, ◌==◌}
 use Rattle.std.specs.Str.{bytes_eq}
 use Rattle.ck_types.specs.Compatibility.{IsReflexive, IsSymmetric}
+use Rattle.ck_types.specs.NodeEquality.{and-true, equal-self, same_integer-self, same_truth-self}
 use Rattle.ck_types.specs.Types.{CType, Void, Integer, Pointer, Array, Struct, Function, Parameters, NoParameters}
 use Rattle.ck_types.specs.Types.{Parameter, Qualifiers, StructIdentity, ByTag, ByTypedef, ByPlace, ByMember}
 use Rattle.ck_types.specs.Types.{ByParameter, same_truth}
@@ -10,24 +11,14 @@ use Rattle.ck_types.specs.Types.{same_integer, same_qualifiers, same_struct, sam
 use Rattle.ck_types.specs.IntegerTypes.{rank, is_signed}
 use Rattle.ck_types.specs.declared.integer_types.IntegerType.{IntegerType}
 
-pub and-true : {a b : Bool} → a ≡ true → b ≡ true → (a && b) ≡ true
-and-true {a} {b} p q = rw (p, q) refl
-
 and-same : {a b c d : Bool} → a ≡ c → b ≡ d → (a && b) ≡ (c && d)
 and-same p q = rw (p, q) refl
-
-pub same_truth-self : (b : Bool) → same_truth b b ≡ true
-same_truth-self true = refl
-same_truth-self false = refl
 
 same_truth-swap : (a b : Bool) → same_truth a b ≡ same_truth b a
 same_truth-swap true true = refl
 same_truth-swap true false = refl
 same_truth-swap false true = refl
 same_truth-swap false false = refl
-
-pub equal-self : (n : ℕ) → (n == n) ≡ true
-equal-self n = grind arith
 
 equal-swap : (n m : ℕ) → (n == m) ≡ (m == n)
 equal-swap n m = grind arith
@@ -47,9 +38,6 @@ same_qualifiers-self q = and-true (same_truth-self q.constant) (same_truth-self 
 
 same_qualifiers-swap : (p q : Qualifiers) → same_qualifiers p q ≡ same_qualifiers q p
 same_qualifiers-swap p q = and-same (same_truth-swap p.constant q.constant) (same_truth-swap p.volatile q.volatile)
-
-pub same_integer-self : (t : IntegerType) → same_integer t t ≡ true
-same_integer-self t = and-true (equal-self (rank t)) (same_truth-self (is_signed t))
 
 same_integer-swap : (t u : IntegerType) → same_integer t u ≡ same_integer u t
 same_integer-swap t u = and-same (equal-swap (rank t) (rank u)) (same_truth-swap (is_signed t) (is_signed u))

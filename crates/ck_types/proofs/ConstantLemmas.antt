@@ -29,7 +29,8 @@ none-representing (t ∷ ts) value h = let e : represents t (pos value) ≡ fals
 
 pub without_type : (is_decimal : Bool) (suffix : Suffix) (value : ℕ) → 2 ^ 64 ≤ value
     → with_value value (constant_type is_decimal suffix value) ≡ None
-without_type is_decimal suffix value h = ap (with_value value) (none-representing (candidates is_decimal suffix) value h)
+without_type is_decimal suffix value h =
+    ap (with_value value) (none-representing (candidates is_decimal suffix) value h)
 
 abbrev Represents : ℕ → Option IntegerType → Type 0
 Represents value None = ⊤

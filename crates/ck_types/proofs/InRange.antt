@@ -1,7 +1,8 @@
 -- What an operator makes is in the range of its type.
 use Rattle.std.proofs.Common.{◌≡◌, ℕ, suc, ◌^◌, ◌%◌, ◌/◌, ◌≤ℤ◌, ◌<ℤ◌, ℤ, pos, negsuc, Bool, true, false}
 use Rattle.std.proofs.Common.{Result, Ok, Err, refl, sym, ◌∙◌, subst, arith}
-use Rattle.std.specs.Prelude.{IfOk, if◌then◌else◌, not, int_div, int_rem, int_lt, unsigned_abs, bit_and, bit_or, bit_xor}
+use Rattle.std.specs.Prelude.{IfOk, if◌then◌else◌, not, int_div, int_rem, int_lt, unsigned_abs}
+use Rattle.std.specs.Prelude.{bit_and, bit_or, bit_xor}
 use lib.IntN.{◌+ℤ◌, ◌-ℤ◌, ◌*ℤ◌, neg_ℤ}
 use Rattle.std.specs.Int.{int_div_euclid}
 use Rattle.std.specs.Ordering.{int_eq}
@@ -184,7 +185,8 @@ binary-range op a b v e =
     typed-range (result_type op a.of b.of) (combined op t x y) v
     (λ r f. combined-range op t x y r (converts_into_range t a.value) f) e
 
-changed-range : (op : UnaryOperator) (t of : IntegerType) (x r : ℤ) → t ≡ promoted of → InRange t x → changed op t x ≡ Ok r
+changed-range : (op : UnaryOperator) (t of : IntegerType) (x r : ℤ) → t ≡ promoted of → InRange t x
+    → changed op t x ≡ Ok r
     → InRange (unary_type op of) r
 changed-range unaries.Plus t of x r p h e = subst (λ u. InRange u r) p (moved t x r (ok-same x r e) h)
 changed-range unaries.Minus t of x r p h e = subst (λ u. InRange u r) p (in_type-range t (pos 0 -ℤ x) r e)

@@ -1,165 +1,61 @@
--- Nodes that the code finds to be the same are equal.
-use Rattle.std.proofs.Common.{◌≡◌, ℕ, ◌+◌, ◌<◌, List, length, get_or, Bool, true, false, Option, Some, None, refl, ap, sym, ◌∙◌, arith}
-use Rattle.std.specs.Prelude.{◌≢◌, ◌&&◌, ◌==◌, if◌then◌else◌}
-use Rattle.std.proofs.lemmas.Bool.{and_parts, eqb-true}
-use Rattle.std.proofs.lemmas.Bool.Decides.{nat_tests}
-use Rattle.ck_types.proofs.InRange.{either}
-use Rattle.ck_types.proofs.Tables.{get_or-there}
-use Rattle.ck_types.specs.IntegerTypes.{rank, is_signed}
-use Rattle.ck_types.specs.SameNodes.{same_count, same_node, same_type, same_written}
-use Rattle.ck_types.specs.Types.{same_integer, same_truth}
-use Rattle.ck_types.specs.declared.integer_types.IntegerType.{IntegerType}
-use Rattle.ck_types.specs.declared.integer_types.IntegerType.TheVariants as integers
-use Rattle.ck_types.specs.declared.types.CType.{CType}
-use Rattle.ck_types.specs.declared.types.CType.TheVariants as types
+-- Nodes that are looked up and placed in a table.
+use Rattle.std.proofs.Common.{◌≡◌, ℕ, zero, suc, List, [], ◌∷◌, ◌++◌, Bool, true, false, Some, refl, sym}
+use Rattle.std.proofs.Common.{subst, arith}
+use Rattle.std.proofs.lemmas.List.{append-nil}
+use Rattle.std.specs.List.{list_any}
+use Rattle.std.specs.Prelude.{◌≢◌, if◌then◌else◌, slice_get}
+use Rattle.ck_types.proofs.Tables.{IsMissing, IsTable-last, lists-kept, types-kept}
+use Rattle.ck_types.specs.NodeEquality.{node-equal, node-self}
+use Rattle.ck_types.specs.SameNodes.{same_node}
+use Rattle.ck_types.specs.TypeTable.{Extends, IsNode, IsTable, KeepsLists, KeepsTypes, fits}
 use Rattle.ck_types.specs.declared.types.Node.{Node}
-use Rattle.ck_types.specs.declared.types.Node.TheVariants as nodes
-use Rattle.ck_types.specs.declared.types.ParametersId.{ParametersId}
-use Rattle.ck_types.specs.declared.types.Qualifiers.{Qualifiers}
-use Rattle.ck_types.specs.declared.types.StructId.{StructId}
-use Rattle.ck_types.specs.declared.types.TypeId.{TypeId}
-use Rattle.ck_types.proofs.Compatible.{and-true, same_truth-self, same_integer-self, equal-self}
 
-truth-equal : (a b : Bool) → same_truth a b ≡ true → a ≡ b
-truth-equal true true h = refl
-truth-equal true false h = absurd (cc)
-truth-equal false true h = absurd (cc)
-truth-equal false false h = refl
+-- a node that no node of these is the same as isn't among them
+differs-first : (k n : Node) (ks : List Node) → list_any (same_node n) (k ∷ ks) ≡ false → k ≢ n
+differs-first k n ks none e =
+    let same : same_node n k ≡ true = subst (λ m. same_node n m ≡ true) (sym e) (node-self n) in
+    grind (arith, none, same)
 
--- a type by its rank and sign
-abbrev ranked : ℕ → Bool → IntegerType
-ranked r true =
-    if r == 1 then integers.SignedChar
-    else if r == 2 then integers.Short
-    else if r == 3 then integers.Int
-    else if r == 4 then integers.Long
-    else integers.LongLong
-ranked r false =
-    if r == 0 then integers.Bool
-    else if r == 1 then integers.Char
-    else if r == 2 then integers.UnsignedShort
-    else if r == 3 then integers.UnsignedInt
-    else if r == 4 then integers.UnsignedLong
-    else integers.UnsignedLongLong
+pub not-among : (ks : List Node) (n : Node) → list_any (same_node n) ks ≡ false → IsMissing ks n
+not-among [] n none i d h = absurd (omega (arith, h))
+not-among (k ∷ ks) n none zero d h = differs-first k n ks none
+not-among (k ∷ ks) n none (suc i) d h = not-among ks n (grind (arith, none)) i d (omega (arith, h))
 
-ranked-is : (t : IntegerType) → ranked (rank t) (is_signed t) ≡ t
-ranked-is integers.Bool = refl
-ranked-is integers.Char = refl
-ranked-is integers.SignedChar = refl
-ranked-is integers.Short = refl
-ranked-is integers.UnsignedShort = refl
-ranked-is integers.Int = refl
-ranked-is integers.UnsignedInt = refl
-ranked-is integers.Long = refl
-ranked-is integers.UnsignedLong = refl
-ranked-is integers.LongLong = refl
-ranked-is integers.UnsignedLongLong = refl
+-- what a table is after a node was placed in it
+pub record IsPlaced (old new : List Node) : Type 0 where
+  pub kept : Extends old new
+  pub types : KeepsTypes old new
+  pub lists : KeepsLists old new
+  pub table : IsTable new
 
-integer-equal : (t u : IntegerType) → same_integer t u ≡ true → t ≡ u
-integer-equal t u h =
-    let parts = and_parts (rank t == rank u) (same_truth (is_signed t) (is_signed u)) h in
-    let r : rank t ≡ rank u = eqb-true (rank t) (rank u) parts.0 in
-    let s : is_signed t ≡ is_signed u = truth-equal (is_signed t) (is_signed u) parts.1 in
-    sym (ranked-is t) ∙ ap (λ n. ranked n (is_signed t)) r ∙ ap (ranked (rank u)) s ∙ ranked-is u
+placed-by : (ks : List Node) (n : Node) (known : Bool) → list_any (same_node n) ks ≡ known → IsTable ks
+    → fits ks n ≡ true → IsPlaced ks (if known then ks else ks ++ n ∷ [])
+placed-by ks n true is table fit = record {
+  kept = record { more = []; is = sym (append-nil ks) };
+  types = λ i h. h;
+  lists = λ i h. h;
+  table = table;
+}
+placed-by ks n false is table fit = record {
+  kept = record { more = n ∷ []; is = refl };
+  types = types-kept ks (n ∷ []);
+  lists = lists-kept ks (n ∷ []);
+  table = IsTable-last ks n table fit (not-among ks n is);
+}
 
-abbrev pub qualifiers : Bool → Bool → Qualifiers
-qualifiers c v = record { constant = c; volatile = v }
+pub placed : (ks ms : List Node) (n : Node) → ms ≡ (if list_any (same_node n) ks then ks else ks ++ n ∷ [])
+    → IsTable ks → fits ks n ≡ true → IsPlaced ks ms
+placed ks ms n is table fit =
+    subst (IsPlaced ks) (sym is) (placed-by ks n (list_any (same_node n) ks) refl table fit)
 
-abbrev pub type_id : ℕ → TypeId
-type_id n = record { 0 = n }
+-- the element of a number is a node there
+pub node-got : (ks : List Node) (i : ℕ) (k : Node) → slice_get ks i ≡ Some k → IsNode ks i k
+node-got [] i k h = grind (arith, h)
+node-got (x ∷ ks) zero k h = record { within = omega arith; is = λ d. grind (arith, h) }
+node-got (x ∷ ks) (suc i) k h =
+    let rest = node-got ks i k h in
+    record { within = omega (arith, rest.within); is = rest.is }
 
-abbrev pub list_id : ℕ → ParametersId
-list_id n = record { 0 = n }
-
-abbrev pub struct_id : ℕ → StructId
-struct_id n = record { 0 = n }
-
-written-equal : (p q : Qualifiers) → same_written p q ≡ true → p ≡ q
-written-equal p q h =
-    let parts = and_parts (same_truth p.constant q.constant) (same_truth p.volatile q.volatile) h in
-    ap (λ c. qualifiers c p.volatile) (truth-equal p.constant q.constant parts.0)
-    ∙ ap (qualifiers q.constant) (truth-equal p.volatile q.volatile parts.1)
-
-count-equal : (n m : Option ℕ) → same_count n m ≡ true → n ≡ m
-count-equal None None h = refl
-count-equal None (Some m) h = absurd (cc)
-count-equal (Some n) None h = absurd (cc)
-count-equal (Some n) (Some m) h = ap Some (eqb-true n m h)
-
-type_id-equal : (t u : TypeId) → (t.0 == u.0) ≡ true → t ≡ u
-type_id-equal t u h = ap type_id (eqb-true t.0 u.0 h)
-
-list_id-equal : (t u : ParametersId) → (t.0 == u.0) ≡ true → t ≡ u
-list_id-equal t u h = ap list_id (eqb-true t.0 u.0 h)
-
-struct_id-equal : (t u : StructId) → (t.0 == u.0) ≡ true → t ≡ u
-struct_id-equal t u h = ap struct_id (eqb-true t.0 u.0 h)
-
-type-equal : (a b : CType) → same_type a b ≡ true → a ≡ b
-type-equal types.Void types.Void h = refl
-type-equal (types.Integer t) (types.Integer u) h = ap types.Integer (integer-equal t u h)
-type-equal (types.Pointer p t) (types.Pointer q u) h =
-    let parts = and_parts (same_written p q) (t.0 == u.0) h in
-    let q = written-equal p q parts.0 in
-    let e = type_id-equal t u parts.1 in
-    cc
-type-equal (types.Array p t n) (types.Array q u m) h =
-    let parts = and_parts (same_written p q && t.0 == u.0) (same_count n m) h in
-    let first = and_parts (same_written p q) (t.0 == u.0) parts.0 in
-    let w = written-equal p q first.0 in
-    let e = type_id-equal t u first.1 in
-    let c = count-equal n m parts.1 in
-    cc
-type-equal (types.Struct s) (types.Struct t) h = ap types.Struct (struct_id-equal s t h)
-type-equal (types.Function p t ps v) (types.Function q u qs w) h =
-    let parts = and_parts (same_written p q && t.0 == u.0 && ps.0 == qs.0) (same_truth v w) h in
-    let first = and_parts (same_written p q && t.0 == u.0) (ps.0 == qs.0) parts.0 in
-    let second = and_parts (same_written p q) (t.0 == u.0) first.0 in
-    let a = written-equal p q second.0 in
-    let b = type_id-equal t u second.1 in
-    let c = list_id-equal ps qs first.1 in
-    let d = truth-equal v w parts.1 in
-    cc
-type-equal _ _ h = absurd (cc)
-
-pub node-equal : (a b : Node) → same_node a b ≡ true → a ≡ b
-node-equal (nodes.Type t) (nodes.Type u) h = ap nodes.Type (type-equal t u h)
-node-equal nodes.NoParameters nodes.NoParameters h = refl
-node-equal (nodes.Parameter t ps) (nodes.Parameter u qs) h =
-    let parts = and_parts (t.0 == u.0) (ps.0 == qs.0) h in
-    let e = type_id-equal t u parts.0 in
-    let f = list_id-equal ps qs parts.1 in
-    cc
-node-equal _ _ h = absurd (cc)
-
-written-self : (q : Qualifiers) → same_written q q ≡ true
-written-self q = and-true (same_truth-self q.constant) (same_truth-self q.volatile)
-
-count-self : (n : Option ℕ) → same_count n n ≡ true
-count-self None = refl
-count-self (Some n) = equal-self n
-
-type-self : (a : CType) → same_type a a ≡ true
-type-self types.Void = refl
-type-self (types.Integer t) = same_integer-self t
-type-self (types.Pointer q t) = and-true (written-self q) (equal-self t.0)
-type-self (types.Array q t n) = and-true (and-true (written-self q) (equal-self t.0)) (count-self n)
-type-self (types.Struct s) = equal-self s.0
-type-self (types.Function q t ps v) =
-    and-true (and-true (and-true (written-self q) (equal-self t.0)) (equal-self ps.0)) (same_truth-self v)
-
-pub node-self : (a : Node) → same_node a a ≡ true
-node-self (nodes.Type t) = type-self t
-node-self nodes.NoParameters = refl
-node-self (nodes.Parameter t ps) = and-true (equal-self t.0) (equal-self ps.0)
-
-pub node-differs : (a b : Node) → same_node a b ≡ false → a ≢ b
-node-differs a b h e = let wrong : false ≡ true = sym h ∙ ap (λ n. same_node n b) e ∙ node-self b in cc
-
--- one more node that isn't the one looked for
-pub differs-more : (ns : List Node) (at : ℕ) (n d : Node) → at < length ns → same_node (get_or ns at d) n ≡ false
-    → ((i : ℕ) (e : Node) → i < at → get_or ns i e ≢ n) → (i : ℕ) (e : Node) → i < at + 1 → get_or ns i e ≢ n
-differs-more ns at n d within other before i e less = either (i == at)
-    (λ h. let same = eqb-true i at h in λ found. node-differs (get_or ns at d) n other
-    (get_or-there ns at d e within ∙ ap (λ k. get_or ns k e) (sym same) ∙ found))
-    (λ h. before i e (grind (arith, nat_tests, h, less)))
+pub node-stored : (ks : List Node) (i : ℕ) (n k : Node) → slice_get ks i ≡ Some k → same_node n k ≡ true
+    → IsNode ks i n
+node-stored ks i n k at same = subst (IsNode ks i) (sym (node-equal n k same)) (node-got ks i k at)

@@ -17,7 +17,7 @@ use Rattle.ck_types.specs.declared.types.Node.TheVariants as nodes
 use Rattle.ck_types.specs.declared.types.Qualifiers.{Qualifiers}
 use Rattle.ck_types.proofs.Entries.{numbers-stand}
 use Rattle.ck_types.proofs.InRange.{either}
-use Rattle.ck_types.proofs.NodeLemmas.{list_id, qualifiers, struct_id, type_id}
+use Rattle.ck_types.specs.NodeEquality.{list_id, qualifiers, struct_id, type_id}
 use Rattle.ck_types.proofs.Tables.{is-node, list-named, list-there, type-named, type-there}
 
 -- the node of a number fits what is before it
@@ -39,7 +39,7 @@ type-among [] (suc i) c h = absurd (cc)
 type-among (n ∷ ns) (suc i) zero h = (h, omega arith)
 type-among (n ∷ ns) (suc i) (suc c) h = let rest = type-among ns i c h in (rest.0, omega (arith, rest.1))
 
-list-among : (ns : List Node) (i c : ℕ) → names_list (take i ns) c ≡ true → (names_list ns c ≡ true) × (c < i)
+pub list-among : (ns : List Node) (i c : ℕ) → names_list (take i ns) c ≡ true → (names_list ns c ≡ true) × (c < i)
 list-among ns zero c h = absurd (cc)
 list-among [] (suc i) c h = absurd (cc)
 list-among (n ∷ ns) (suc i) zero h = (h, omega arith)
@@ -167,5 +167,5 @@ module _ (identity : ℕ → StructIdentity) (is_one : (s t : ℕ) → identity 
       (node-fits [] ns j none g table.fitting) (sym (stands i h) ∙ same ∙ stands j g))
 
 pub equal-one_number : EqualTypesHaveOneNumber
-equal-one_number identity ns i j table is_one h g same = one-number identity is_one ns table (suc i) i j (omega arith) h g
-    same
+equal-one_number identity ns i j table is_one h g same =
+    one-number identity is_one ns table (suc i) i j (omega arith) h g same

@@ -1,16 +1,20 @@
 -- A table that grows at its end is a table.
 use Rattle.std.proofs.Common.{◌≡◌, ℕ, zero, suc, ◌+◌, ◌<◌, Bool, true, false, List, [], ◌∷◌, ◌++◌, length, get_or}
-use Rattle.std.proofs.Common.{None, refl, ap, sym, subst, ◌∙◌, arith}
-use Rattle.std.specs.Prelude.{◌==◌, not}
+use Rattle.std.proofs.Common.{refl, ap, sym, subst, ◌∙◌, arith}
+use Rattle.std.specs.Prelude.{◌==◌, ◌≢◌, not}
 use Rattle.std.proofs.lemmas.Bool.{and_parts, eqb-true}
 use Rattle.std.proofs.lemmas.Bool.Decides.{nat_tests}
 use Rattle.std.proofs.lemmas.List.{append_assoc, append-nil, get_or_append_left}
 use Rattle.std.proofs.Math.Seq.{get_or-append_seam}
-use Rattle.ck_types.specs.TypeTable.{AreDistinct, IsFound, IsNode, IsTable, fits, fits_after, is_type}
+use Rattle.ck_types.specs.TypeTable.{AreDistinct, IsNode, IsTable, fits, fits_after, is_type}
 use Rattle.ck_types.specs.TypeTable.{names_as, names_list, names_type}
 use Rattle.ck_types.specs.declared.types.Node.{Node}
-use Rattle.ck_types.proofs.Compatible.{and-true}
+use Rattle.ck_types.specs.NodeEquality.{and-true}
 use Rattle.ck_types.proofs.InRange.{either}
+
+-- a node that isn't in a table
+abbrev pub IsMissing : List Node → Node → Type 0
+IsMissing ns n = (i : ℕ) (d : Node) → i < length ns → get_or ns i d ≢ n
 
 pub empty-table : IsTable []
 empty-table = record { fitting = refl; distinct = λ i j d before within. absurd (omega (arith, within)) }
@@ -27,7 +31,7 @@ length-last : (ns : List Node) (n : Node) → length (ns ++ n ∷ []) ≡ length
 length-last [] n = refl
 length-last (m ∷ ns) n = let e = length-last ns n in omega (arith, e)
 
-distinct-last : (ns : List Node) (n : Node) → AreDistinct ns → IsFound ns n None → AreDistinct (ns ++ n ∷ [])
+distinct-last : (ns : List Node) (n : Node) → AreDistinct ns → IsMissing ns n → AreDistinct (ns ++ n ∷ [])
 distinct-last ns n distinct fresh i j d before within e = either (j == length ns) at_end among where
   size : length (ns ++ n ∷ []) ≡ length ns + 1
   size = length-last ns n
@@ -35,7 +39,8 @@ distinct-last ns n distinct fresh i j d before within e = either (j == length ns
   at_end : (j == length ns) ≡ true → ⊥
   at_end h =
       let same : j ≡ length ns = eqb-true j (length ns) h in
-      let last : get_or (ns ++ n ∷ []) j d ≡ n = ap (λ k. get_or (ns ++ n ∷ []) k d) same ∙ get_or-append_seam ns n [] d in
+      let last : get_or (ns ++ n ∷ []) j d ≡ n =
+      ap (λ k. get_or (ns ++ n ∷ []) k d) same ∙ get_or-append_seam ns n [] d in
       fresh i d (omega (arith, before, same)) (sym (get_or_append_left ns (n ∷ []) d i (omega (arith, before, same)))
       ∙ e ∙ last)
 
@@ -45,7 +50,7 @@ distinct-last ns n distinct fresh i j d before within e = either (j == length ns
       distinct i j d before fit (sym (get_or_append_left ns (n ∷ []) d i (omega (arith, before, fit))) ∙ e
       ∙ get_or_append_left ns (n ∷ []) d j fit)
 
-pub IsTable-last : (ns : List Node) (n : Node) → IsTable ns → fits ns n ≡ true → IsFound ns n None
+pub IsTable-last : (ns : List Node) (n : Node) → IsTable ns → fits ns n ≡ true → IsMissing ns n
     → IsTable (ns ++ n ∷ [])
 IsTable-last ns n table fit fresh = record {
   fitting = fits_after-last [] ns n table.fitting fit;

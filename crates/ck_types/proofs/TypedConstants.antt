@@ -57,7 +57,8 @@ abbrev UL : List IntegerType
 UL = types.UnsignedLong ∷ types.UnsignedLongLong ∷ []
 
 unsigned-long : (v : ℕ) → is_some (first_representing UL (pos v)) ≡ nat_lt v (2 ^ 64)
-unsigned-long v = one-before types.UnsignedLong (types.UnsignedLongLong ∷ []) v (2 ^ 64) (below types.UnsignedLong v)
+unsigned-long v =
+    one-before types.UnsignedLong (types.UnsignedLongLong ∷ []) v (2 ^ 64) (below types.UnsignedLong v)
     (last-of types.UnsignedLongLong v (2 ^ 64) (unsigned-last v))
 
 unsigned-int : (v : ℕ) → is_some (first_representing (types.UnsignedInt ∷ UL) (pos v)) ≡ nat_lt v (2 ^ 64)
@@ -82,7 +83,9 @@ any-int v = one-before types.Int (types.UnsignedInt ∷ AnyLong) v (2 ^ 64) (bel
     (one-before types.UnsignedInt AnyLong v (2 ^ 64) (below types.UnsignedInt v) (any-long v))
 
 signed-long : (v : ℕ) → is_some (first_representing (types.Long ∷ types.LongLong ∷ []) (pos v)) ≡ nat_lt v (2 ^ 63)
-signed-long v = one-before types.Long (types.LongLong ∷ []) v (2 ^ 63) (long-below v) (last-of types.LongLong v (2 ^ 63) (signed-last v))
+signed-long v =
+    one-before types.Long (types.LongLong ∷ []) v (2 ^ 63) (long-below v)
+    (last-of types.LongLong v (2 ^ 63) (signed-last v))
 
 signed-int : (v : ℕ) → is_some (first_representing (types.Int ∷ types.Long ∷ types.LongLong ∷ []) (pos v))
     ≡ nat_lt v (2 ^ 63)

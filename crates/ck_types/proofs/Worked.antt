@@ -49,7 +49,8 @@ unsigned_less : binary operators.Less (as_type types.Int (negsuc 0)) (as_type ty
 unsigned_less = refl
 
 -- `2147483647 + 1` overflows, `4294967295u + 1` is 0
-overflow : binary operators.Add (as_type types.Int (pos 2147483647)) (as_type types.Int (pos 1)) ≡ Err why.SignedOverflow
+overflow : binary operators.Add (as_type types.Int (pos 2147483647)) (as_type types.Int (pos 1))
+    ≡ Err why.SignedOverflow
 overflow = refl
 
 reduced : binary operators.Add (as_type types.UnsignedInt (pos 4294967295)) (as_type types.Int (pos 1))
@@ -126,8 +127,8 @@ minus_least = refl
 not_two : unary unaries.Not (as_type types.UnsignedLongLong (pos 2)) ≡ Ok (as_type types.Int (pos 0))
 not_two = refl
 
--- `2147483648` is a `long long`, `0x80000000` and `2147483648u` are `unsigned int`, `0xffffffffl` is `unsigned long`, and
--- `9223372036854775808` has no type
+-- `2147483648` is a `long long`, `0x80000000` and `2147483648u` are `unsigned int`, `0xffffffffl` is `unsigned long`,
+-- and `9223372036854775808` has no type
 decimal_constant : constant_type true suffixes.Nothing 2147483648 ≡ Some types.LongLong
 decimal_constant = refl
 

@@ -26,8 +26,8 @@ one_if b = if b then pos 1 else pos 0
 abbrev pub where_represented : IntegerType → ℤ → ℤ → Result ℤ NoValue
 where_represented t z result = if represents t z then Ok result else Err SignedOverflow
 
--- 6.2.5, 6.5: a result in a type: an unsigned type reduces it modulo one more than its greatest value, a signed type has to
--- represent it
+-- 6.2.5, 6.5: a result in a type: an unsigned type reduces it modulo one more than its greatest value, a signed type
+-- has to represent it
 abbrev pub in_type : IntegerType → ℤ → Result ℤ NoValue
 in_type t z = if is_signed t then where_represented t z z else Ok (modulo (2 ^ width t) z)
 

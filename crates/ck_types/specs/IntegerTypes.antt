@@ -1,5 +1,5 @@
--- The integer types, their values, and the conversion of a value to one of them (C99 6.2.5, 6.3.1.1 to 6.3.1.3, 6.3.1.8).
--- `char` is unsigned and one type with `unsigned char`.
+-- The integer types, their values, and the conversion of a value to one of them (C99 6.2.5, 6.3.1.1 to 6.3.1.3,
+-- 6.3.1.8). `char` is unsigned and one type with `unsigned char`.
 use Rattle.std.specs.Prelude.{ℕ, zero, ◌-◌, ◌^◌, Bool, true, false, ◌&&◌, nat_le, nat_lt, if◌then◌else◌}
 use Rattle.std.specs.Prelude.{int_le, int_lt, ℤ, pos}
 use lib.IntN.{◌-ℤ◌, neg_ℤ}
@@ -75,7 +75,8 @@ abbrev pub truth : ℤ → ℤ
 truth (pos zero) = pos 0
 truth _ = pos 1
 
--- 6.3.1.3: what is left of a value below a modulus, the upper half of which stands for the negative values of a signed type
+-- 6.3.1.3: what is left of a value below a modulus, the upper half of which stands for the negative values of a signed
+-- type
 abbrev pub modulo : ℕ → ℤ → ℤ
 modulo modulus z = int_rem_euclid z (pos modulus)
 
@@ -108,8 +109,9 @@ unsigned_of t = t
 abbrev pub greater_rank : IntegerType → IntegerType → IntegerType
 greater_rank t u = if nat_le (rank u) (rank t) then t else u
 
--- 6.3.1.8, of a promoted signed and a promoted unsigned type: the unsigned one where its rank isn't less; else the signed
--- one where it can represent all values of the unsigned one; else the unsigned one that corresponds to the signed one
+-- 6.3.1.8, of a promoted signed and a promoted unsigned type: the unsigned one where its rank isn't less; else the
+-- signed one where it can represent all values of the unsigned one; else the unsigned one that corresponds to the
+-- signed one
 abbrev pub of_both_signs : IntegerType → IntegerType → IntegerType
 of_both_signs signed unsigned =
     if nat_le (rank signed) (rank unsigned) then unsigned

@@ -10,5 +10,5 @@ pub mod Types
 -- From memory to plain values
 pub mod TypeTable
 pub mod Elements
--- Private
 pub mod SameNodes
+pub mod NodeEquality

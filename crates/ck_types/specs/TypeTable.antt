@@ -117,10 +117,6 @@ pub record IsNode (ns : List Node) (i : ℕ) (n : Node) : Type 0 where
   pub within : i < length ns
   pub is : (d : Node) → slice_index_or ns i d ≡ n
 
-abbrev pub IsFound : List Node → Node → Option ℕ → Type 0
-IsFound ns n None = (i : ℕ) (d : Node) → i < length ns → slice_index_or ns i d ≢ n
-IsFound ns n (Some i) = IsNode ns i n
-
 -- what is named in a table stays named when it grows
 abbrev pub KeepsTypes : List Node → List Node → Type 0
 KeepsTypes old new = (i : ℕ) → names_type old i ≡ true → names_type new i ≡ true

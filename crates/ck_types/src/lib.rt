@@ -27,4 +27,4 @@ pub use laws::{
 };
 pub use literals::{character_constant, integer_constant};
 pub use operators::{BinaryOperator, IntegerValue, NoValue, UnaryOperator};
-pub use types::{CType, ParametersId, Qualifiers, StructId, TypeId, Types, convert};
+pub use types::{CType, Node, ParametersId, Qualifiers, StructId, TypeId, Types, convert};

@@ -13,8 +13,8 @@ use crate::constants::{Suffix, constant_type};
 use crate::integer_types::IntegerType;
 use crate::operators::IntegerValue;
 
-/// The value of an integer constant with its type, by all its bytes: prefix, digits and suffix (6.4.4.1). None where they
-/// are no integer constant whose type exists within 64 bits.
+/// The value of an integer constant with its type, by all its bytes: prefix, digits and suffix (6.4.4.1). None where
+/// they are no integer constant whose type exists within 64 bits.
 pub fn integer_constant(text: &[u8]) -> Option<IntegerValue>
     ensures value { result ≡ spec.integer_constant text.now }
     ensures range { IfSome result IsInRange }
@@ -25,8 +25,8 @@ pub fn integer_constant(text: &[u8]) -> Option<IntegerValue>
     constant_in(base, digits, suffix)
 }
 
-/// The value of a character constant, which is an `int`, by all its bytes, its quotes among them (6.4.4.4). None where they
-/// hold no single character with a value up to 255.
+/// The value of a character constant, which is an `int`, by all its bytes, its quotes among them (6.4.4.4). None where
+/// they hold no single character with a value up to 255.
 pub fn character_constant(text: &[u8]) -> Option<IntegerValue>
     ensures { result ≡ spec.character_constant text.now }
 {

@@ -1,5 +1,6 @@
 //! What operators make of values of integer types (C99 6.5.3.3, 6.5.5 to 6.5.12).
-ghost use Rattle.std.specs.Prelude.{◌≡◌, ◌^◌, true, false, pos, ◌<◌, ◌≤◌, ◌≤ℤ◌, ◌<ℤ◌, int_div, int_rem, unsigned_abs, IfOk};
+ghost use Rattle.std.specs.Prelude.{◌≡◌, ◌^◌, true, false, pos, ◌<◌, ◌≤◌, ◌≤ℤ◌, ◌<ℤ◌};
+ghost use Rattle.std.specs.Prelude.{int_div, int_rem, unsigned_abs, IfOk};
 ghost use Rattle.std.specs.Ordering.{int_eq};
 ghost use lib.IntN.{◌+ℤ◌, ◌-ℤ◌, ◌*ℤ◌};
 ghost use Rattle.ck_types.specs.Arithmetic as spec;
@@ -8,8 +9,8 @@ ghost use Rattle.ck_types.specs.Ranges.{IsInRange, IsValue};
 
 use crate::integer_types::IntegerType;
 
-/// An operator on two values of integer types. `&&`, `||` and `,` are none: their right operand may not be evaluated, or
-/// the left one is dropped.
+/// An operator on two values of integer types. `&&`, `||` and `,` are none: their right operand may not be evaluated,
+/// or the left one is dropped.
 #[derive(Clone, Copy, Debug, PartialEq, Eq)]
 pub enum BinaryOperator {
     /// `*` (6.5.5)
@@ -64,7 +65,8 @@ pub enum UnaryOperator {
 pub enum NoValue {
     /// `/` or `%` by 0.
     DivisionByZero,
-    /// A signed result, or the quotient beside `%`, that its type can't represent; a negative value shifted to the left.
+    /// A signed result, or the quotient beside `%`, that its type can't represent; a negative value shifted to the
+    /// left.
     SignedOverflow,
     /// A negative shift count, or one that isn't below the width of the promoted left operand.
     BadShift,
@@ -80,8 +82,8 @@ pub struct IntegerValue {
 }
 
 impl BinaryOperator {
-    /// What the operator makes of two values, which it converts first as C does: the result with its type, or why there is
-    /// none.
+    /// What the operator makes of two values, which it converts first as C does: the result with its type, or why there
+    /// is none.
     pub fn apply(self, left: IntegerValue, right: IntegerValue) -> Result<IntegerValue, NoValue>
         ensures value { result ≡ spec.binary self left right }
         ensures range { IfOk result IsInRange }

@@ -1,11 +1,12 @@
-//! Nodes of a table of types beside each other.
+//! Nodes of a table of types beside each other, and what they are hashed by.
 ghost use Rattle.std.specs.Prelude.{◌≡◌};
+ghost use Rattle.ck_types.specs.NodeEquality as equality;
 ghost use Rattle.ck_types.specs.SameNodes as spec;
-ghost use Rattle.ck_types.specs.TypeTable.{IsFound};
 ghost use Rattle.ck_types.specs.Types.{same_truth as truths, same_integer as integers};
 
 use crate::integer_types::IntegerType;
 use crate::types::{CType, Node, Qualifiers};
+use std::hash::{Hash, Hasher};
 
 fn same_truth(a: bool, b: bool) -> bool
     ensures { result ≡ truths a b }
@@ -103,16 +104,51 @@ fn same_node(a: Node, b: Node) -> bool
     }
 }
 
-/// The number of a node, where it is among these.
-pub(crate) fn find(nodes: &[Node], node: Node) -> Option<usize>
-    ensures { IsFound nodes.now node result }
+/// What a node is hashed by: its kind, and two numbers of what it is made of.
+fn digest(node: Node) -> (u8, u32, u32)
+    ensures { result ≡ spec.digest node }
 {
-    let mut at = 0;
-    while at < nodes.len() {
-        if same_node(nodes[at], node) {
-            return Some(at);
-        }
-        at += 1;
+    match node {
+        Node::NoParameters => (0, 0, 0),
+        Node::Parameter { first, rest } => (1, first.0, rest.0),
+        Node::Type(CType::Void) => (2, 0, 0),
+        Node::Type(CType::Integer(of)) => (3, u32::from(of.rank()), 0),
+        Node::Type(CType::Pointer { to, .. }) => (4, to.0, 0),
+        Node::Type(CType::Array { of, count, .. }) => (5, of.0, count.unwrap_or(0)),
+        Node::Type(CType::Struct(identity)) => (6, identity.0, 0),
+        Node::Type(
+            CType::Function {
+                result,
+                parameters,
+                ..
+            },
+        ) => (7, result.0, parameters.0),
     }
-    None
+}
+
+impl PartialEq for Node {
+    ghost eq = { spec.same_node };
+
+    ghost laws = { equality.partial };
+
+    fn eq(&self, other: &Node) -> bool {
+        same_node(*self, *other)
+    }
+}
+
+impl Eq for Node {
+    ghost laws = { equality.whole };
+}
+
+impl Hash for Node {
+    ghost hash_input = { spec.writes };
+
+    ghost respects_eq = { equality.writes-equal };
+
+    fn hash<H: Hasher>(&self, state: &mut H) {
+        let (kind, first, second) = digest(*self);
+        state.write_u8(kind);
+        state.write_u32(first);
+        state.write_u32(second);
+    }
 }

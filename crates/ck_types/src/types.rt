@@ -1,5 +1,5 @@
-//! The types of a project in one table. A type that is made of others names them by their numbers, which are smaller; equal
-//! types have one number.
+//! The types of a project in one table. A type that is made of others names them by their numbers, which are smaller;
+//! equal types have one number.
 ghost use Rattle.std.specs.Prelude.{◌≡◌, ◌<◌, true, false, [], None, length, take, IfOk};
 ghost use Rattle.ck_types.specs.IntegerTypes.{converted};
 ghost use Rattle.ck_types.specs.TypeTable as spec;
@@ -7,8 +7,8 @@ ghost use Rattle.ck_types.specs.Elements.{HasElements, IsElementOf, array_parts}
 ghost use Rattle.ck_types.specs.TypeTable.{IfInteger};
 
 use crate::integer_types::IntegerType;
-use crate::type_nodes::find;
 use ck_base::OutOfMemory;
+use indexmap::IndexSet;
 use std::alloc::Global;
 use std::marker::Model;
 
@@ -62,22 +62,27 @@ pub enum CType {
     },
 }
 
-/// A node of a table.
-#[derive(Clone, Copy, Debug, PartialEq, Eq)]
+/// What a number of a table stands for, over the numbers before it.
+#[derive(Clone, Copy, Debug)]
 pub enum Node {
     /// A type.
     Type(CType),
     /// The empty list of parameters.
     NoParameters,
     /// A parameter's type before other parameters.
-    Parameter { first: TypeId, rest: ParametersId },
+    Parameter {
+        /// The type.
+        first: TypeId,
+        /// The other parameters.
+        rest: ParametersId,
+    },
 }
 
-/// The types of a project, each once. It is seen as the list of its nodes; `types_are_plain` says which types their numbers
-/// stand for.
-#[derive(Debug, Drop)]
+/// The types of a project, each once; a type is looked up in constant time. It is seen as the list of its nodes;
+/// `numbers_stand_for_types` says which types their numbers stand for.
+#[derive(Drop)]
 pub struct Types {
-    pub(crate) nodes: Vec<Node>,
+    nodes: IndexSet<Node>,
 }
 
 impl Model for Types {
@@ -87,9 +92,9 @@ impl Model for Types {
 
     ghost Value = { List TableNode };
 
-    ghost view = { λ t. t.nodes.items };
+    ghost view = { λ t. t.nodes.keys };
 
-    ghost invariant = { λ t. IsTable t.nodes.items };
+    ghost invariant = { λ t. IsTable t.nodes.keys };
 }
 
 impl Types {
@@ -98,7 +103,7 @@ impl Types {
         ensures { result ≡ [] }
     {
         Types {
-            nodes: Vec::new(alloc),
+            nodes: IndexSet::new(alloc),
         }
     }
 
@@ -155,6 +160,16 @@ impl Types {
         type_in(node_at(&self.nodes, id.0))
     }
 
+    /// What a number stands for: a type, or a list of parameters.
+    pub fn entry(&self, number: u32) -> Node
+        requires { number < length self.now }
+        ensures node { spec.IsNode self.now number result }
+        ensures smaller { spec.fits (take number self.now) result ≡ true }
+        ensures table { spec.IsTable self.now }
+    {
+        node_at(&self.nodes, number)
+    }
+
     /// The type of an array's elements through all its dimensions; another type is its own.
     pub fn element_type(&self, id: TypeId) -> TypeId
         requires { spec.names_type self.now id.0 ≡ true }
@@ -168,8 +183,8 @@ impl Types {
         at
     }
 
-    /// How many elements an array has through all its dimensions, at most 2^64 - 1, where all sizes are known; another type
-    /// has 1.
+    /// How many elements an array has through all its dimensions, at most 2^64 - 1, where all sizes are known; another
+    /// type has 1.
     pub fn element_count(&self, id: TypeId) -> Option<u64>
         requires { spec.names_type self.now id.0 ≡ true }
         ensures { HasElements self.now id.0 result }
@@ -197,11 +212,14 @@ impl Types {
 }
 
 /// The node of a number.
-fn node_at(nodes: &[Node], number: u32) -> Node
-    requires { number < length nodes.now }
-    ensures { spec.IsNode nodes.now number result }
+fn node_at(nodes: &IndexSet<Node>, number: u32) -> Node
+    requires { number < length nodes.now.keys }
+    ensures { spec.IsNode nodes.now.keys number result }
 {
-    nodes[number as usize]
+    match nodes.get_index(number as usize) {
+        Some(node) => *node,
+        None => Node::NoParameters,
+    }
 }
 
 /// What an array is of, and how many elements it has where that is known.
@@ -234,8 +252,8 @@ fn list_in(node: Node) -> Option<(TypeId, ParametersId)>
     }
 }
 
-/// A value converted to an integer type: for `_Bool` whether it is other than 0 (6.3.1.2), else what is left of it in the
-/// type's bits, which wraps where the type is signed (6.3.1.3).
+/// A value converted to an integer type: for `_Bool` whether it is other than 0 (6.3.1.2), else what is left of it in
+/// the type's bits, which wraps where the type is signed (6.3.1.3).
 pub fn convert(value: i128, to: &CType) -> i128
     requires { spec.is_integer to.now ≡ true }
     ensures { IfInteger to.now (λ of. result ≡ converted of value) }
@@ -247,37 +265,18 @@ pub fn convert(value: i128, to: &CType) -> i128
 }
 
 /// The number of a node, which is added where the table doesn't have it.
-fn place(nodes: &mut Vec<Node>, node: Node) -> Result<u32, OutOfMemory>
-    requires table { spec.IsTable nodes.old.items }
-    requires fits { spec.fits nodes.old.items node ≡ true }
-    ensures kept { spec.Extends nodes.old.items nodes.new.items }
-    ensures types { spec.KeepsTypes nodes.old.items nodes.new.items }
-    ensures lists { spec.KeepsLists nodes.old.items nodes.new.items }
-    ensures table { spec.IsTable nodes.new.items }
-    ensures number { IfOk result (λ id. spec.IsNode nodes.new.items id node) }
+fn place(nodes: &mut IndexSet<Node>, node: Node) -> Result<u32, OutOfMemory>
+    requires table { spec.IsTable nodes.old.keys }
+    requires fits { spec.fits nodes.old.keys node ≡ true }
+    ensures kept { spec.Extends nodes.old.keys nodes.new.keys }
+    ensures types { spec.KeepsTypes nodes.old.keys nodes.new.keys }
+    ensures lists { spec.KeepsLists nodes.old.keys nodes.new.keys }
+    ensures table { spec.IsTable nodes.new.keys }
+    ensures number { IfOk result (λ id. spec.IsNode nodes.new.keys id node) }
 {
-    let number = match find(nodes, node) {
-        Some(number) => number,
-        None => add(nodes, node)?,
-    };
+    let (number, _) = nodes.insert_full(node)?;
     match u32::try_from(number) {
         Ok(number) => Ok(number),
         Err(_) => Err(OutOfMemory),
     }
-}
-
-/// Adds a node that isn't there, and gives its number.
-fn add(nodes: &mut Vec<Node>, node: Node) -> Result<usize, OutOfMemory>
-    requires table { spec.IsTable nodes.old.items }
-    requires fits { spec.fits nodes.old.items node ≡ true }
-    requires fresh { spec.IsFound nodes.old.items node None }
-    ensures kept { spec.Extends nodes.old.items nodes.new.items }
-    ensures types { spec.KeepsTypes nodes.old.items nodes.new.items }
-    ensures lists { spec.KeepsLists nodes.old.items nodes.new.items }
-    ensures table { spec.IsTable nodes.new.items }
-    ensures number { IfOk result (λ id. spec.IsNode nodes.new.items id node) }
-{
-    let number = nodes.len();
-    nodes.push(node)?;
-    Ok(number)
 }

@@ -31,7 +31,8 @@ loop-of-preserved c =
           c.loop-of.invariant.same identity
           ∙ ap (λ t. Counted e (element_count t)) (type-is identity ns at c.node.result c.node.ensures.table
           c.node.ensures.node)
-          ∙ ap (Counted e) (count-inner identity (entries_of identity ns) c.node.result c.in-Some.of c.in-Some.count parts)
+          ∙ ap (Counted e)
+          (count-inner identity (entries_of identity ns) c.node.result c.in-Some.of c.in-Some.count parts)
           ∙ ap (λ m. Counted e (times m rest)) c.in-Some-count.is ∙ counted-more e n rest
           ∙ ap (λ m. Counted m rest) (sym product);
       small = omega (arith, c.saturating_mul-elements.ensures);

@@ -2,4 +2,4 @@ use Rattle.ck_types.proofs.Tables.{node-named}
 use Rattle.ck_types.proofs.types.Types.with_parameter.Goals as goal
 
 pub returns-clause-named : goal.returns-clause-named
-returns-clause-named c = node-named c.place.new.nodes.items c.in_ok-place.field-0 _ c.in_ok-place.ensures.number
+returns-clause-named c = node-named c.place.new.nodes.keys c.in_ok-place.field-0 _ c.in_ok-place.ensures.number
