@@ -4,7 +4,8 @@ use Rattle.std.specs.Prelude.{◌&&◌, ◌==◌}
 use Rattle.std.proofs.lemmas.Bool.Decides.{nat_tests}
 use Rattle.std.proofs.lemmas.Slice.Eq.{bytes_eq-Decides}
 use Rattle.std.specs.Str.{bytes_eq}
-use Rattle.ck_types.proofs.Compatible.{and-true, is_reflexive}
+use Rattle.ck_types.proofs.Compatible.{is_reflexive}
+use Rattle.ck_types.specs.NodeEquality.{and-true}
 use Rattle.ck_types.specs.Types.{StructIdentity, ByTag, ByTypedef, ByPlace, ByMember, ByParameter, CType, Void, Integer}
 use Rattle.ck_types.specs.Types.{Pointer, Array, Struct, Function, Parameters, NoParameters, Parameter, same_struct}
 use Rattle.ck_types.specs.Types.{same_qualifiers, same_size, same_truth, compatible, all_compatible}
