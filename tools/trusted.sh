@@ -17,7 +17,7 @@ import sys
 from pathlib import Path
 
 CRATES = Path("crates")
-STRING = re.compile(r'"(?:\\.|[^"\\])*"' r"|b?'(?:\\.|[^'\\])'")
+STRING = re.compile(r'"(?:\\.|[^"\\])*"' r"|b?'(?:\\.|[^'\\])'", re.S)
 WORD = re.compile(r"[^\W\d][\w]*")
 IMPORT = re.compile(r"\b(?:ghost )?use +Rattle\.(\w+)\.specs\.([\w.]+?)(?:\.\{([^}]*)\}| +as +(\w+))?\s*(?:;|\n|$)")
 ITEM = re.compile(r"(?:\bpub(\([^)]*\))?\s+)?(?:const\s+|unsafe\s+|async\s+)*\b(fn|impl|trait|struct|enum|static|const)\b")
