@@ -54,12 +54,12 @@ last-or-before P k at less before last = last-by P k at (k == at) refl less befo
 
 -- a table's node names what has smaller numbers
 module _ (ns : List Node) (table : IsTable ns) where
-  fits-there : (i : ℕ) (n : Node) → IsNode ns i n → fits (take i ns) n ≡ true
+  pub fits-there : (i : ℕ) (n : Node) → IsNode ns i n → fits (take i ns) n ≡ true
   fits-there i n is =
       subst (λ m. fits (take i ns) m ≡ true) (is.is nodes.NoParameters)
       (node-fits [] ns i nodes.NoParameters is.within table.fitting)
 
-  type-smaller : (i : ℕ) (n : Node) (c : ℕ) → fits (take i ns) n ≡ true → named_type n ≡ Some c
+  pub type-smaller : (i : ℕ) (n : Node) (c : ℕ) → fits (take i ns) n ≡ true → named_type n ≡ Some c
       → (names_type ns c ≡ true) × (c < i)
   type-smaller i (nodes.Type (types.Pointer q to)) c f h =
       let e : to.0 ≡ c = cc in
@@ -77,7 +77,7 @@ module _ (ns : List Node) (table : IsTable ns) where
       type-among ns i c (subst (λ d. names_type (take i ns) d ≡ true) e fs.0)
   type-smaller i _ c f h = absurd (cc)
 
-  list-smaller : (i : ℕ) (n : Node) (c : ℕ) → fits (take i ns) n ≡ true → named_list n ≡ Some c
+  pub list-smaller : (i : ℕ) (n : Node) (c : ℕ) → fits (take i ns) n ≡ true → named_list n ≡ Some c
       → (names_list ns c ≡ true) × (c < i)
   list-smaller i (nodes.Type (types.Function q result ps v)) c f h =
       let e : ps.0 ≡ c = cc in

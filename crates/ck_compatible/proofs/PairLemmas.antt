@@ -52,7 +52,7 @@ among-by x ks p true is rest h = record { place = 0; is = ap Some (same_pair-equ
 among-by x ks p false is rest h = among-later x ks p (rest h)
 
 -- a pair that is found is among them
-found : (ks : List Pair) (p : Pair) → list_any (same_pair p) ks ≡ true → IsAmong ks p
+pub found : (ks : List Pair) (p : Pair) → list_any (same_pair p) ks ≡ true → IsAmong ks p
 found [] p h = absurd (cc)
 found (x ∷ ks) p h =
     among-by x ks p (same_pair p x) refl (found ks p) (grind (arith, h))

@@ -1,5 +1,4 @@
--- What two nodes of a table have in common apart from the numbers that they name, and what they name. Private contracts
--- alone speak of it.
+-- What two nodes of a table have in common apart from the numbers that they name, and what they name (C99 6.2.7).
 use Rattle.std.specs.Prelude.{ℕ, Bool, true, false, ◌&&◌, ◌==◌, Option, Some, None}
 use Rattle.ck_types.specs.SameNodes.{same_written}
 use Rattle.ck_types.specs.Types.{same_integer, same_size, same_truth}

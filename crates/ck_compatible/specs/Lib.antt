@@ -1,5 +1,5 @@
 -- What is promised
 pub mod Compatible
--- Private
+-- What it rests on: the pairs of numbers that have to agree
 pub mod Agreement
 pub mod Pairs

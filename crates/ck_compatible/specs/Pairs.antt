@@ -1,4 +1,4 @@
--- Pairs of numbers that have to agree where two numbers do. Private contracts alone speak of it.
+-- Pairs of numbers that have to agree where two numbers do: each number is compared over the parts of its node.
 use Rattle.std.specs.Prelude.{◌≡◌, ◌<◌, ◌⊎◌, ⊤, ℕ, Bool, true, false, ◌&&◌, ◌==◌, if◌then◌else◌, List, length}
 use Rattle.std.specs.Prelude.{Option, Some, slice_get}
 use Rattle.indexmap.specs.IndexSet.{insert_key}
