@@ -1,0 +1,7 @@
+-- What is promised
+pub mod Laws
+pub mod KernelActs
+pub mod Extended
+pub mod Synthetic
+-- Private
+pub mod Within
