@@ -1,5 +1,9 @@
 -- Worked examples, computed on the definitions
 pub mod Worked
+-- What synthetic functions do
+pub mod GraphWays
+pub mod EntryWays
+pub mod StepWays
 -- Soundness
 pub mod NoFault
 pub mod SoundTargets

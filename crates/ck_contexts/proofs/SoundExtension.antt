@@ -29,29 +29,29 @@ record IsFine (flow : Flow) (n : ℕ) (p : Point) : Type 0 where
   few : length p.edges < 2 ^ 32
 
 module _ (number : ℕ) (flow : Flow) (c : Context) where
-  abbrev new : Flow
+  abbrev pub new : Flow
   new = with_context number flow c
 
-  abbrev at : Placing
+  abbrev pub at : Placing
   at = placing number flow c
 
-  abbrev ss : List Step
+  abbrev pub ss : List Step
   ss = steps number c
 
   -- what the graph has at a number
-  old-point : (n : ℕ) → n < point_count flow → point_at new n ≡ point_at flow n
+  pub old-point : (n : ℕ) → n < point_count flow → point_at new n ≡ point_at flow n
   unfolding point_at
   old-point n below = get_or_append_left flow.points (points_from at 0 ss) no_point n below
 
-  new-point : (k : ℕ) → point_at new (point_count flow + k) ≡ get_or (points_from at 0 ss) k no_point
+  pub new-point : (k : ℕ) → point_at new (point_count flow + k) ≡ get_or (points_from at 0 ss) k no_point
   unfolding point_at
   new-point k = get_or-append-add flow.points (points_from at 0 ss) k no_point
 
-  old-function : (n : ℕ) → n < function_count flow → function_at new n ≡ function_at flow n
+  pub old-function : (n : ℕ) → n < function_count flow → function_at new n ≡ function_at flow n
   unfolding function_at
   old-function n below = get_or_append_left flow.functions (function_placed at ∷ []) no_function n below
 
-  new-function : function_at new (function_count flow) ≡ function_placed at
+  pub new-function : function_at new (function_count flow) ≡ function_placed at
   unfolding function_at
   new-function = get_or_at flow.functions (function_placed at) [] no_function (function_count flow) refl
 

@@ -1,4 +1,5 @@
 -- What is promised
+pub mod Actions
 pub mod Laws
 pub mod KernelActs
 pub mod Extended

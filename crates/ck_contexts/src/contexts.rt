@@ -35,10 +35,11 @@ impl Context {
         match self {
             Context::Main(_) => State::TI,
             Context::Thread(_) => State::TN,
-            Context::Vector { fast, .. } => { if *fast { State::FF } else { State::HB } }
-            Context::Callback { .. } | Context::Timer { .. } => State::HB,
+            Context::Vector { fast: true, .. } => State::FF,
+            Context::Vector { .. } | Context::Callback { .. } | Context::Timer { .. } => State::HB,
         }
     }
+
     /// The place in the text of the points of its synthetic function.
     pub(crate) fn site(&self) -> Spot
         ensures { result ≡ site_of self.now }
@@ -52,7 +53,7 @@ impl Context {
     }
 
     /// How many functions it runs.
-    pub(crate) fn functions(&self) -> u32
+    pub(crate) fn function_count(&self) -> u32
         requires { length (functions_of self.now) < 2 ^ 32 }
         ensures { result ≡ length (functions_of self.now) }
     {

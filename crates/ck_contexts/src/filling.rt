@@ -18,7 +18,8 @@ pub trait CallTargets {
         ensures { result.now ≡ targets self.now call };
 }
 
-/// The parts in which the targets of each call point are those of its number, and all else is as it was.
+/// The parts in which the targets of each call point are those of its number, and all else is as it was. It fails
+/// where memory runs out, and for no other cause.
 pub fn filled<T: CallTargets>(
     alloc: Global,
     parts: Parts,

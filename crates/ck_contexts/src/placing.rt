@@ -32,7 +32,7 @@ const BEFORE: u8 = 1;
 
 /// Where a synthetic function is in the graph: its number, the numbers of its first point and of its exit, and
 /// the place in the text of its points.
-#[derive(Clone, Copy, Debug)]
+#[derive(Clone, Copy)]
 pub struct Placing {
     pub function: FnId,
     pub first: u32,
@@ -40,8 +40,11 @@ pub struct Placing {
     pub site: Spot,
 }
 
-/// The graph of these parts, with the synthetic functions of the contexts after all others, in their order. The
-/// numbers of their calls go on from `calls`, the number of the project's own.
+/// The graph of these parts, with the synthetic functions of the contexts after all others, in their order
+/// (docs/FLOW.md, "Entries"). The numbers of their calls go on from `calls`, the number of the project's own.
+///
+/// The parts have no fault, and the contexts run functions of theirs. `contexts_add_few` says how many points
+/// and functions there are then. It fails where memory runs out, and for no other cause.
 pub fn extended(
     alloc: Global,
     parts: Parts,
@@ -75,7 +78,7 @@ fn with_contexts(
     let mut number = calls;
     for context in contexts {
         add_context(alloc, &mut parts, number, context)?;
-        number += context.functions();
+        number += context.function_count();
     }
     Ok(parts)
 }

@@ -4,7 +4,7 @@ use ck_graph::ActName;
 
 /// What happens at a point of a synthetic function, and to which places of its list of steps it leads. The
 /// place after the last step is the exit.
-#[derive(Clone, Copy, Debug, PartialEq, Eq)]
+#[derive(Clone, Copy)]
 pub enum Step {
     /// The op acts, and the way goes on to a place.
     Act(Op, ActName, u32),

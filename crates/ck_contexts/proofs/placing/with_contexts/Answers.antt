@@ -24,8 +24,8 @@ add_context-requires-clause-functions c =
     (flow_of c.loop-context.parts) c.args.contexts.now c.context-item.result c.loop-context-test.true c.context-item.is
     c.loop-context.invariant.same c.loop-context.invariant.few c.requires.points c.requires.functions).functions_fit
 
-pub functions-number-requires : goal.functions-number-requires
-functions-number-requires c =
+pub function_count-number-requires : goal.function_count-number-requires
+function_count-number-requires c =
     let on =
     goes-on c.args.calls c.loop-context.number c.loop-context.context-index (flow_of c.args.parts)
     (flow_of c.loop-context.parts) c.args.contexts.now c.context-item.result c.loop-context-test.true c.context-item.is
@@ -38,7 +38,7 @@ overflow_add-number c =
     goes-on c.args.calls c.loop-context.number c.loop-context.context-index (flow_of c.args.parts)
     (flow_of c.loop-context.parts) c.args.contexts.now c.context-item.result c.loop-context-test.true c.context-item.is
     c.loop-context.invariant.same c.loop-context.invariant.few c.requires.points c.requires.functions in
-    omega (arith, on.calls_fit, functions-few c.loop-context.number c.context-item.result, c.functions-number.ensures)
+    omega (arith, on.calls_fit, functions-few c.loop-context.number c.context-item.result, c.function_count-number.ensures)
 
 pub loop-context-preserved : goal.loop-context-preserved
 loop-context-preserved c =
@@ -47,7 +47,7 @@ loop-context-preserved c =
     (flow_of c.loop-context.parts) c.args.contexts.now c.context-item.result c.loop-context-test.true c.context-item.is
     c.loop-context.invariant.same c.loop-context.invariant.few c.requires.points c.requires.functions in
     let rest = drop (c.loop-context.context-index + 1) c.args.contexts.now in
-    let more = c.functions-number.ensures in
+    let more = c.function_count-number.ensures in
     let made = c.in_ok-add_context.ensures in
     record {
       same =
