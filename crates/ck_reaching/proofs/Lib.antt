@@ -1,0 +1,12 @@
+pub mod SetLemmas
+pub mod IndexLemmas
+pub mod ListingLemmas
+pub mod TableLemmas
+pub mod KnownLemmas
+pub mod WorkLemmas
+pub mod RuleLemmas
+pub mod ConnectLemmas
+pub mod IndexedRules
+pub mod LookLemmas
+pub mod StartLemmas
+pub mod TargetLists
