@@ -10,6 +10,9 @@ mod OrdinaryPoints
 mod StatementsApart
 -- edges_fit
 mod EdgesFit
+-- edges_are_few: evaluations, then statements and functions
+mod NarrowEvaluations
+mod FewEdges
 -- places_are_numbered
 mod OneNumber
 -- graphs_are_sound

@@ -1,5 +1,5 @@
 -- Laws about the points and edges of functions, and about their graphs.
-use Rattle.std.specs.Prelude.{◌≡◌, ◌≢◌, ◌<◌, ⊤, ℕ, List, length, Contains, AllPairs, slice_get, Some}
+use Rattle.std.specs.Prelude.{◌≡◌, ◌≢◌, ◌<◌, ◌≤◌, ◌+◌, ⊤, ℕ, List, length, Contains, AllPairs, slice_get, Some}
 use Rattle.ck_graph.specs.Faults.{IsSmall, IsSound}
 use Rattle.ck_graph.specs.Flow.{Flow, point_at, point_count}
 use Rattle.ck_prog.specs.TypedBodies.{TypedFunction}
@@ -29,6 +29,10 @@ FitsHappening Ends edges = edges ≡ 0
 
 abbrev pub EdgesFit : Type 0
 EdgesFit = (f : TypedFunction) (d : Point) → Contains (points f) d → FitsHappening d.happening (length d.edges)
+
+-- a point has at most six edges more than its function has points
+abbrev pub EdgesAreFew : Type 0
+EdgesAreFew = (f : TypedFunction) (d : Point) → Contains (points f) d → length d.edges ≤ length (points f) + 6
 
 -- no two points of a function are at one place
 abbrev pub PlacesDiffer : Type 0

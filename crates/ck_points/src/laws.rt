@@ -1,5 +1,5 @@
 //! Laws about the definitions, each the contract of a function that does nothing.
-ghost use Rattle.ck_points.specs.Laws.{EdgesFit, EdgesStay, GraphsAreSound, PlacesAreNumbered, PlacesDiffer};
+ghost use Rattle.ck_points.specs.Laws.{EdgesAreFew, EdgesFit, EdgesStay, GraphsAreSound, PlacesAreNumbered, PlacesDiffer};
 
 /// Each edge of a function leads to a point of the function.
 pub fn edges_stay()
@@ -9,6 +9,12 @@ pub fn edges_stay()
 /// A call, and an act by which a function is entered or left, has one edge, and the exit none.
 pub fn edges_fit()
     ensures { EdgesFit }
+{}
+
+/// A point has at most six edges more than its function has points, so that their number fits 32 bits where the limit of
+/// points is kept.
+pub fn edges_are_few()
+    ensures { EdgesAreFew }
 {}
 
 /// No two points of a function are at one place.

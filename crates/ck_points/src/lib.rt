@@ -10,4 +10,6 @@
 
 mod laws;
 
-pub use laws::{edges_fit, edges_stay, graphs_are_sound, places_are_numbered, places_differ};
+pub use laws::{
+    edges_are_few, edges_fit, edges_stay, graphs_are_sound, places_are_numbered, places_differ,
+};
