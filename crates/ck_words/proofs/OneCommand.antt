@@ -9,7 +9,7 @@ use Rattle.ck_words.specs.Commands.{HaveOneCommand, Words, IsCommand}
 use Rattle.ck_words.specs.Matched.{FitsWord, mode_text, number_text}
 use Rattle.ck_words.proofs.Matching.{Reading, reading-command, taken}
 
-pub FitsWord-command : (words : Words) (c : Command) → IsCommand words c → FitsWord c
+FitsWord-command : (words : Words) (c : Command) → IsCommand words c → FitsWord c
 FitsWord-command [] c is = absurd is
 FitsWord-command (name ∷ words) Check is = tt
 FitsWord-command (name ∷ words) Upgrade is = tt

@@ -13,7 +13,8 @@ const FIRST_LINES: &str = "void chSysInit(void);\n\
     void f0(void) { chSysLock(); chSysUnlock(); }\n";
 
 /// The text of the one file of the benchmark for a number: a project in which 2 to the power of the
-/// number walks lead through its last function (docs/COMMANDS.md, "The benchmark").
+/// number walks lead through its last function (docs/COMMANDS.md, "The benchmark"). It comes for every
+/// number, and is refused for want of memory alone.
 pub fn bench_text(alloc: Global, number: u32) -> Result<Vec<u8>, OutOfMemory>
     ensures { IfOk result (λ text. text.items ≡ spec.bench_text number) }
 {

@@ -65,7 +65,8 @@ impl From<clap::Error> for WordsError {
     }
 }
 
-/// The command that these words are; the first is the program's name, and isn't looked at.
+/// The command that these words are; the first is the program's name, and isn't looked at
+/// (docs/COMMANDS.md, "The words").
 ///
 /// Refused as `Usage` exactly where they aren't a command; `Memory` is want of memory.
 pub fn command_of(alloc: Global, words: &[String]) -> Result<Command, WordsError>
