@@ -49,14 +49,7 @@ calls-at number next zero (g ∷ fs) f is =
 calls-at number next (suc k) (g ∷ fs) f is =
     calls-at (number + 1) next k fs f is ∙ ap (λ n. Some (Call n f next)) (omega arith)
 
--- the three steps of a part, which begins at p
-record HasPart (ss : List Step) (p number next : ℕ) (f : FnId) : Type 0 where
-  q : ℕ
-  r : ℕ
-  unlocks : slice_get ss p ≡ Some (steps.unlock q)
-  calls : slice_get ss q ≡ Some (Call number f r)
-  locks : slice_get ss r ≡ Some (steps.lock next)
-
+-- the three steps of a part
 unlocked-at : (place number next k : ℕ) (fs : List FnId) (f : FnId) → slice_get fs k ≡ Some f
     → (slice_get (steps.unlocked_calls place number fs next) (3 * k) ≡ Some (steps.unlock (place + 3 * k + 1)))
     × (slice_get (steps.unlocked_calls place number fs next) (3 * k + 1)

@@ -1,51 +1,21 @@
--- Steps, edges and points one by one, as loops add them; and how many there are.
-use Rattle.std.proofs.Common.{◌≡◌, ℕ, zero, suc, ◌+◌, ◌*◌, ◌<◌, ◌≤◌, true, false, List, [], ◌∷◌, ◌++◌}
-use Rattle.std.proofs.Common.{length, get_or, drop, refl, sym, ap, ◌∙◌, arith}
-use Rattle.std.proofs.lemmas.List.{append_assoc, at_drop_more, length-append}
+-- The edges of a pick one by one, and how many steps, edges and points there are.
+use Rattle.std.proofs.Common.{◌≡◌, ℕ, zero, suc, ◌+◌, ◌*◌, ◌≤◌, true, false, List, [], ◌∷◌}
+use Rattle.std.proofs.Common.{length, refl, ap, arith}
+use Rattle.std.proofs.lemmas.List.{length-append}
 use Rattle.ck_base.specs.declared.spans.FnId.{FnId}
 use Rattle.ck_graph.specs.declared.points.Label.TheVariants as label
 use Rattle.ck_contexts.specs.declared.contexts.Context.{Context}
 use Rattle.ck_contexts.specs.declared.contexts.Context.TheVariants.{Main, Thread, Vector, Callback, Timer}
 use Rattle.ck_contexts.specs.declared.placing.Placing.{Placing}
 use Rattle.ck_contexts.specs.declared.steps.Step.{Step}
-use Rattle.ck_contexts.specs.declared.steps.Step.TheVariants.{Call}
-use Rattle.ck_contexts.specs.Extended.{edge, picks, point_of_step, points_from}
-use Rattle.ck_contexts.specs.Synthetic.{lock, unlock, calls, unlocked_calls, callback, locked_callback, timer, steps}
+use Rattle.ck_contexts.specs.Extended.{edge, picks, points_from}
+use Rattle.ck_contexts.specs.Synthetic.{calls, unlocked_calls, callback, locked_callback, timer, steps}
 use Rattle.ck_contexts.specs.Synthetic.{functions_of}
-
--- what is added to a list is taken from the rest
-pub push-append : {X : Type 0} (xs more ys zs : List X) → zs ≡ more ++ ys → (xs ++ more) ++ ys ≡ xs ++ zs
-push-append xs more ys zs e = append_assoc xs more ys ∙ ap (λ t. xs ++ t) (sym e)
-
--- the calls from the k-th function on
-pub calls-drop : (number k : ℕ) (fs : List FnId) (next : ℕ) (d : FnId) → k < length fs
-    → calls (number + k) (drop k fs) next
-    ≡ Call (number + k) (get_or fs k d) next ∷ calls (number + (k + 1)) (drop (k + 1) fs) next
-calls-drop number k fs next d below =
-    at_drop_more (λ rest. calls (number + k) rest next) fs k d below
-    ∙ ap (λ n. Call (number + k) (get_or fs k d) next ∷ calls n (drop (k + 1) fs) next) (omega arith)
-
-pub unlocked_calls-drop : (place number k : ℕ) (fs : List FnId) (next : ℕ) (d : FnId) → k < length fs
-    → unlocked_calls (place + 3 * k) (number + k) (drop k fs) next
-    ≡ (unlock (place + 3 * k + 1) ∷ Call (number + k) (get_or fs k d) (place + 3 * k + 2) ∷ lock next ∷ [])
-    ++ unlocked_calls (place + 3 * (k + 1)) (number + (k + 1)) (drop (k + 1) fs) next
-unlocked_calls-drop place number k fs next d below =
-    at_drop_more (λ rest. unlocked_calls (place + 3 * k) (number + k) rest next) fs k d below
-    ∙ ap (λ n. unlock (place + 3 * k + 1) ∷ Call (number + k) (get_or fs k d) (place + 3 * k + 2) ∷ lock next
-    ∷ unlocked_calls n (number + k + 1) (drop (k + 1) fs) next) (omega arith)
-    ∙ ap (λ n. unlock (place + 3 * k + 1) ∷ Call (number + k) (get_or fs k d) (place + 3 * k + 2) ∷ lock next
-    ∷ unlocked_calls (place + 3 * (k + 1)) n (drop (k + 1) fs) next) (omega arith)
 
 -- the edges of a pick from the k-th function on
 pub picks-more : (at : Placing) (k place size m n : ℕ) → m ≡ suc n
     → picks at k place size m ≡ edge at place (label.Pick k) ∷ picks at (k + 1) (place + size) size n
 picks-more at k place size m n e = ap (picks at k place size) e
-
--- the points from a place on
-pub points_from-drop : (at : Placing) (place : ℕ) (ss : List Step) (d : Step) → place < length ss
-    → points_from at place (drop place ss)
-    ≡ point_of_step at place (get_or ss place d) ∷ points_from at (place + 1) (drop (place + 1) ss)
-points_from-drop at place ss d below = at_drop_more (points_from at place) ss place d below
 
 -- lengths
 pub length-calls : (number : ℕ) (fs : List FnId) (next : ℕ) → length (calls number fs next) ≡ length fs
