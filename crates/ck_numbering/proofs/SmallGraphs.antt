@@ -1,6 +1,6 @@
 -- The numbers of a point's edges fit 32 bits, where the limit of points is kept.
 use Rattle.std.proofs.Common.{◌≡◌, ap, arith}
-use Rattle.std.specs.Prelude.{◌<◌, ◌≤◌, ◌+◌, ◌^◌, ℕ, suc, zero, List, ◌∷◌, [], length, map}
+use Rattle.std.specs.Prelude.{◌<◌, ◌≤◌, ◌^◌, ℕ, suc, zero, List, ◌∷◌, [], length, map}
 use Rattle.std.specs.Prelude.{slice_get, slice_index_or}
 use Rattle.std.specs.Prelude.{Some, None, All, Contains, Vec, vec_len}
 use Rattle.std.specs.List.{sum_by}

@@ -31,7 +31,8 @@ use Rattle.ck_numbering.proofs.Sums.{point_count-built, kept_sum, same_sums}
 -- an iterator over a list that is moved: what came so far, and what comes now
 pub turn : {S X : Type 0} {steps : S → Option X → S → Type 0} {s : S} {all : List X}
     → YieldsList steps (λ x. x) s all → (xs : List X) (t : S) → Yields steps s xs t
-    → (r : Option X) (u : S) (x : X) → r ≡ Some x → steps t r u → (xs ≡ take (length xs) all) × (slice_get all (length xs) ≡ Some x)
+    → (r : Option X) (u : S) (x : X) → r ≡ Some x → steps t r u
+    → (xs ≡ take (length xs) all) × (slice_get all (length xs) ≡ Some x)
 turn {all = all} road xs t yielded r u x is step =
     let here = YieldsList-turn road xs t yielded r u x is step in (
       sym (map-id xs) ∙ YieldsList-so_far road xs t yielded,

@@ -22,8 +22,9 @@ use std::alloc::Global;
 /// function, in any order, by the functions' numbers.
 ///
 /// Points are numbered by function, path, orders and side, so that edges lead to numbers. Calls have no targets yet.
-/// The program keeps the limit of points (`function_past_limit`). `ck_graph::checked` finds no fault in the parts
-/// (`ck_points::graphs_are_sound`). The only error is want of memory.
+/// The program keeps the limit of points (`function_past_limit`). Such a graph has no fault
+/// (`ck_points::graphs_are_sound`), and its numbers fit 32 bits, as `ck_graph::checked` wants them. The only error is
+/// want of memory.
 pub fn graph_of(alloc: Global, drafts: Vec<Vec<Draft>>) -> Result<Parts, OutOfMemory>
     requires { AreNumberable drafts.items }
     ensures graph { IfOk result (λ parts.

@@ -1,8 +1,8 @@
 -- A point has at most six edges more than its function has points: the edges of a `switch` go with its labels, and each
 -- of these has a point.
-use Rattle.std.proofs.Common.{◌≡◌, refl, subst, arith}
+use Rattle.std.proofs.Common.{◌≡◌, arith}
 use Rattle.std.specs.Prelude.{◌≤◌, ◌+◌, ℕ, suc, Bool, true, false, List, [], ◌∷◌, ◌++◌, length}
-use Rattle.std.specs.Prelude.{Contains, Option, Some}
+use Rattle.std.specs.Prelude.{Option, Some}
 use Rattle.std.specs.Prelude.{None, if◌then◌else◌}
 use Rattle.std.specs.List.{AllByRecursion as Each}
 use Rattle.std.proofs.lemmas.List.{length-append}
@@ -26,7 +26,7 @@ use Rattle.ck_points.specs.Laws.{EdgesAreFew}
 use Rattle.ck_points.specs.Passages.{Passage, nothing, in_turn, point, passing, either_way, passage}
 use Rattle.ck_points.specs.Places.{Place, before, after, test, Happening, Passes, EntersPair, LeavesPair, Ends}
 use Rattle.ck_points.specs.Places.{Point, Way, Edge, edge, leads}
-use Rattle.ck_points.specs.Statements.{Jumps, around, evaluated, tested, decided, switched, maybe_decided}
+use Rattle.ck_points.specs.Statements.{Jumps, around, evaluated, decided, switched, maybe_decided}
 use Rattle.ck_points.specs.Statements.{maybe_evaluated, declaration, started, statement, items, in_switch, in_loop}
 use Rattle.ck_points.specs.Statements.{jumped}
 use Rattle.ck_points.proofs.NarrowEvaluations.{Narrow, AtMostSix, length-either_way, few_of_evaluation, narrow}

@@ -1,6 +1,6 @@
 -- A point of what is evaluated for an expression, an initialiser or a declarator has at most six edges: those are the
 -- orders of three operands.
-use Rattle.std.proofs.Common.{◌≡◌, refl, subst, arith}
+use Rattle.std.proofs.Common.{◌≡◌, refl, arith}
 use Rattle.std.specs.Prelude.{⊤, ◌≤◌, ℕ, suc, Bool, true, false, List, [], ◌∷◌, ◌++◌, length, map}
 use Rattle.std.specs.Prelude.{Option, Some, None}
 use Rattle.std.specs.Prelude.{if◌then◌else◌}
