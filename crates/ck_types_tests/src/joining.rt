@@ -5,7 +5,7 @@ ghost use Rattle.ck_types.specs.TypeTable as spec;
 use ck_base::OutOfMemory;
 use ck_compatible::compatible;
 use ck_composite::joined;
-use ck_types::{CType, IntegerType, ParametersId, Qualifiers, TypeId, Types};
+use ck_types::{CType, IntegerType, Qualifiers, TypeId, Types};
 use std::alloc::Global;
 
 const PLAIN: Qualifiers = Qualifiers {
@@ -67,21 +67,19 @@ fn function(
 }
 
 /// Whether two types are joined to this one, and compatible where there is one.
-fn join_to(
-    types: &mut Types,
-    alloc: Global,
-    a: TypeId,
-    b: TypeId,
-    wanted: Option<TypeId>,
-) -> Result<bool, OutOfMemory>
+fn join_to(types: &mut Types, alloc: Global, a: TypeId, b: TypeId, wanted: Option<TypeId>) -> bool
     requires first { spec.names_type types.old a.0 ≡ true }
     requires second { spec.names_type types.old b.0 ≡ true }
     ensures types { spec.KeepsTypes types.old types.new }
     ensures lists { spec.KeepsLists types.old types.new }
 {
-    let are_compatible = compatible(types, alloc, a, b)?;
-    let found = joined(types, alloc, a, b)?;
-    Ok(found == wanted && are_compatible == wanted.is_some())
+    let Ok(are_compatible) = compatible(types, alloc, a, b) else {
+        return false;
+    };
+    let Ok(found) = joined(types, alloc, a, b) else {
+        return false;
+    };
+    found == wanted && are_compatible == wanted.is_some()
 }
 
 /// `int [3]` and `int []`, both ways, and beside `int [4]` and `long [3]` (6.7.5.2).
@@ -94,11 +92,11 @@ fn arrays_join(alloc: Global) -> Result<bool, OutOfMemory> {
     let four = array(&mut types, int, Some(4))?;
     let longs = array(&mut types, long, Some(3))?;
     Ok(
-        join_to(&mut types, alloc, three, unknown, Some(three))?
-            && join_to(&mut types, alloc, unknown, three, Some(three))?
-            && join_to(&mut types, alloc, unknown, unknown, Some(unknown))?
-            && join_to(&mut types, alloc, three, four, None)?
-            && join_to(&mut types, alloc, three, longs, None)?,
+        join_to(&mut types, alloc, three, unknown, Some(three))
+            && join_to(&mut types, alloc, unknown, three, Some(three))
+            && join_to(&mut types, alloc, unknown, unknown, Some(unknown))
+            && join_to(&mut types, alloc, three, four, None)
+            && join_to(&mut types, alloc, three, longs, None),
     )
 }
 
@@ -121,9 +119,9 @@ fn pointers_join(alloc: Global) -> Result<bool, OutOfMemory> {
     let to_int = pointer(&mut types, PLAIN, int)?;
     let to_constant = pointer(&mut types, CONSTANT, int)?;
     Ok(
-        join_to(&mut types, alloc, to_unknown, to_three, Some(to_three))?
-            && join_to(&mut types, alloc, to_int, to_constant, None)?
-            && join_to(&mut types, alloc, to_int, to_three, None)?,
+        join_to(&mut types, alloc, to_unknown, to_three, Some(to_three))
+            && join_to(&mut types, alloc, to_int, to_constant, None)
+            && join_to(&mut types, alloc, to_int, to_three, None),
     )
 }
 
@@ -149,9 +147,9 @@ fn functions_join(alloc: Global) -> Result<bool, OutOfMemory> {
     let whole = function(&mut types, known, known, known, false)?;
     let more = function(&mut types, known, known, known, true)?;
     Ok(
-        join_to(&mut types, alloc, one, other, Some(whole))?
-            && join_to(&mut types, alloc, other, one, Some(whole))?
-            && join_to(&mut types, alloc, one, more, None)?,
+        join_to(&mut types, alloc, one, other, Some(whole))
+            && join_to(&mut types, alloc, other, one, Some(whole))
+            && join_to(&mut types, alloc, one, more, None),
     )
 }
 
