@@ -1,5 +1,6 @@
 -- What each kind of synthetic function does on the ways through its steps.
-use Rattle.std.proofs.Common.{◌≡◌, ℕ, zero, suc, ◌+◌, ◌*◌, ◌≤◌, true, false, List, [], ◌∷◌, ◌++◌, Some, length, slice_get}
+use Rattle.std.proofs.Common.{◌≡◌, ℕ, zero, suc, ◌+◌, ◌*◌, ◌≤◌, true, false, List, [], ◌∷◌, ◌++◌, Some, length}
+use Rattle.std.proofs.Common.{slice_get}
 use Rattle.std.proofs.Common.{refl, sym, ap, ◌∙◌, subst, arith}
 use Rattle.std.specs.List.{All, Contains, flat_map}
 use Rattle.ck_base.specs.declared.spans.FnId.{FnId}
@@ -64,7 +65,8 @@ unlocked-at place number next zero (g ∷ fs) f is =
     let second : 3 * 0 + 2 ≡ 2 = omega arith in (
       ap (slice_get ss) zeroth ∙ ap (λ n. Some (steps.unlock n)) (omega arith),
       ap (slice_get ss) first ∙ (ap (λ f. Some (Call number f (place + 2))) same
-          ∙ (ap (λ n. Some (Call n f (place + 2))) (omega arith) ∙ ap (λ n. Some (Call (number + 0) f n)) (omega arith))),
+          ∙ (ap (λ n. Some (Call n f (place + 2))) (omega arith)
+          ∙ ap (λ n. Some (Call (number + 0) f n)) (omega arith))),
       ap (slice_get ss) second,
     )
 unlocked-at place number next (suc k) (g ∷ fs) f is =
@@ -150,7 +152,8 @@ module _ (number : ℕ) (fs : List FnId) where
 
   open-ends : slice_get (steps.callback number fs) (2 + length fs) ≡ Some (steps.epilogue (2 + length fs + 1))
   open-ends =
-      let at : 2 + length fs ≡ 2 + length fs + 0 = omega arith in ap (slice_get (steps.callback number fs)) at ∙ open-at 0
+      let at : 2 + length fs ≡ 2 + length fs + 0 = omega arith in
+      ap (slice_get (steps.callback number fs)) at ∙ open-at 0
 
   open-past : length (steps.callback number fs) ≤ 2 + length fs + 2
   open-past = omega (arith, length-callback number fs)

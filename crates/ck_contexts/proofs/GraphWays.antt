@@ -1,5 +1,6 @@
 -- The ways through a synthetic function in a graph are those through its steps.
-use Rattle.std.proofs.Common.{◌≡◌, ◌↔◌, ℕ, zero, suc, ◌+◌, ◌*◌, ◌<◌, ◌≤◌, List, [], ◌∷◌, Some, length, get_or, slice_get}
+use Rattle.std.proofs.Common.{◌≡◌, ◌↔◌, ℕ, zero, suc, ◌+◌, ◌*◌, ◌<◌, ◌≤◌, List, [], ◌∷◌, Some, length, get_or}
+use Rattle.std.proofs.Common.{slice_get}
 use Rattle.std.proofs.Common.{refl, sym, ap, ◌∙◌, subst, inl, inr, arith}
 use Rattle.std.specs.List.{Contains}
 use Rattle.std.proofs.Math.Nat.{mul-suc}
@@ -135,7 +136,8 @@ module _ (number : ℕ) (flow : Flow) (c : Context) (new : Flow)
 
     -- an edge leads to a place up to the exit
     place-within : (k j place : ℕ) (s : Step) (e : Edge) → slice_get ss k ≡ Some s
-        → slice_get (point_of_step at (0 + k) s).edges j ≡ Some e → e.to.0 ≡ point_count flow + place → place ≤ length ss
+        → slice_get (point_of_step at (0 + k) s).edges j ≡ Some e → e.to.0 ≡ point_count flow + place
+        → place ≤ length ss
     place-within k j place s e is has to =
         let inner : IsInner at (functions_of c) s =
         subst (IsInner at (functions_of c)) (get_or_from_slice_get ss k s s is)
@@ -251,7 +253,8 @@ module _ (number : ℕ) (flow : Flow) (c : Context) (new : Flow)
           let j : ℕ = part_of.0 in
           let e : Edge = edge at (part + size * j) (label.Pick (1 + j)) in
           let q_is : q ≡ part + size * j = part_of.2 in
-          let has : slice_get (point_of_step at (0 + k) s).edges (suc j) ≡ Some e = picks-at at 1 part size n j part_of.1 in
+          let has : slice_get (point_of_step at (0 + k) s).edges (suc j) ≡ Some e =
+          picks-at at 1 part size n j part_of.1 in
           let fits : q ≤ length ss =
           place-within k (suc j) q s e is has (ap (λ q. point_count flow + q) (sym q_is)) in
           passes (point_count flow + k) (suc j) e rest (kind-to k s is) (edge-to k (suc j) s e is has)

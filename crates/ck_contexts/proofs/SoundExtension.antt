@@ -87,7 +87,8 @@ module _ (number : ℕ) (flow : Flow) (c : Context) where
           targets = All-weaker (λ (t : FnId). t.0 < function_count flow) (λ (t : FnId). t.0 < function_count new)
               (λ t is. omega arith) p.targets s.targets;
           edges = All-weaker (λ (e : Edge). IsPointOf flow e.to.0 p.function.0)
-              (λ (e : Edge). IsPointOf new e.to.0 p.function.0) (λ e is. keeps-point e.to.0 p.function.0 is) p.edges s.edges;
+              (λ (e : Edge). IsPointOf new e.to.0 p.function.0) (λ e is. keeps-point e.to.0 p.function.0 is) p.edges
+              s.edges;
           fits = s.fits;
           exit = λ is. ap (λ f. f.exit.0) (old-function p.function.0 s.function) ∙ s.exit is;
         };
@@ -106,7 +107,8 @@ module _ (number : ℕ) (flow : Flow) (c : Context) where
             function = omega (arith, own, more);
             targets = targets-of_step at (functions_of c) (λ (t : FnId). t.0 < function_count new)
                 (λ f listed. let below : f.0 < function_count flow =
-                All-contains (λ (t : FnId). t.0 < function_count flow) (functions_of c) f run listed in omega arith) q s inner;
+                All-contains (λ (t : FnId). t.0 < function_count flow) (functions_of c) f run listed in
+                omega arith) q s inner;
             edges = All-weaker (IsWithin at) (λ (e : Edge). IsPointOf new e.to.0 (point_of_step at q s).function.0)
                 (λ e is. subst (IsPointOf new e.to.0) (sym own) (edge-stays e is)) (point_of_step at q s).edges
                 (edges-within at (functions_of c) q s inner);

@@ -48,7 +48,8 @@ module _ (flow : Flow) (targets : ℕ → List FnId) where
           function = s.function;
           targets = targets-sound p.kind p.targets s.targets;
           edges = All-weaker (λ (e : Edge). IsPointOf flow e.to.0 p.function.0)
-              (λ (e : Edge). IsPointOf new e.to.0 p.function.0) (λ e is. keeps-point e.to.0 p.function.0 is) p.edges s.edges;
+              (λ (e : Edge). IsPointOf new e.to.0 p.function.0) (λ e is. keeps-point e.to.0 p.function.0 is) p.edges
+              s.edges;
           fits = s.fits;
           exit = λ is. ap (λ f. f.exit.0) (function-kept p.function.0) ∙ s.exit is;
         })

@@ -26,7 +26,8 @@ module _ (orders : List ℕ) (d : Drawn) where
       ≡ draw orders v.evaluation (draw orders (arranged vs (with_calls vs)) d)
   first_of_all v vs = first_placed v.facts.holds_call v.evaluation vs
 
-orders_of-one : (es : List Evaluation) → (length es ≡ 2 → ⊥) → (length es ≡ 3 → ⊥) → orders_of es ≡ es ∷ []
+orders_of-one : (es : List Evaluation) → (length es ≡ 2 → ⊥) → (length es ≡ 3 → ⊥) → orders_of es
+    ≡ es ∷ []
 orders_of-one [] two three = refl
 orders_of-one (a ∷ []) two three = refl
 orders_of-one (a ∷ b ∷ []) two three = absurd (two refl)

@@ -1,5 +1,6 @@
 -- What is drawn for an evaluation is its passage.
-use Rattle.std.proofs.Common.{◌≡◌, ℕ, suc, Bool, true, false, List, [], ◌∷◌, ◌++◌, map, refl, sym, ap, ◌∙◌, append-nil}
+use Rattle.std.proofs.Common.{◌≡◌, ℕ, suc, Bool, true, false, List, [], ◌∷◌, ◌++◌, map, refl, sym}
+use Rattle.std.proofs.Common.{ap, ◌∙◌, append-nil}
 use Rattle.std.specs.Prelude.{if◌then◌else◌}
 use Rattle.ck_drafts.specs.Drafts.{PlainEdge, edge_drafted}
 use Rattle.ck_passages.specs.Drawing.{edge_to, test_edges, put_test, put_split, going_to, Copies, draw, draw_orders}
@@ -8,12 +9,13 @@ use Rattle.ck_passages.specs.Points.{PlainPoint, Drawn, without_deeds, added, be
 use Rattle.ck_graph.specs.declared.points.Label.TheVariants.{Plain, Order as OrderLabel}
 use Rattle.ck_points.specs.Evaluations as form
 use Rattle.ck_points.specs.Evaluations.{Evaluation, Orders}
-use Rattle.ck_points.specs.Passages.{Passage, in_turn, all_in_turn, point, passing, either_way, order_edges, passage, each_order}
+use Rattle.ck_points.specs.Passages.{Passage, in_turn, all_in_turn, point, passing, either_way, order_edges, passage}
+use Rattle.ck_points.specs.Passages.{each_order}
 use Rattle.ck_points.specs.Places.{Split, Before, Test, After, Place, place, Passes, Calls, Point}
 use Rattle.ck_points.specs.Places.{Way, leads}
 use Rattle.ck_prog.specs.Senses.{Constancy, Varying, Valueless, Known, is_zero}
 
-added-append : (ps : List PlainPoint) (xs ys : List Point) → added ps (xs ++ ys) ≡ added (added ps ys) xs
+pub added-append : (ps : List PlainPoint) (xs ys : List Point) → added ps (xs ++ ys) ≡ added (added ps ys) xs
 added-append ps [] ys = refl
 added-append ps (x ∷ xs) ys = ap (λ qs. qs ++ (without_deeds x ∷ [])) (added-append ps xs ys)
 
@@ -40,7 +42,7 @@ one_way-to : (b : Bool) (p q : Way) → (if b then p.to else q.to) ≡ (if b the
 one_way-to true p q = refl
 one_way-to false p q = refl
 
-test_edges-drafted : (c : Constancy) (holds fails : Way) →
+pub test_edges-drafted : (c : Constancy) (holds fails : Way) →
     test_edges c holds.to fails.to ≡ map edge_drafted (either_way c holds fails)
 test_edges-drafted (Known v) holds fails =
     ap (λ to. edge_to Plain to ∷ []) (one_way-to (is_zero (Known v)) fails holds)
@@ -98,7 +100,8 @@ mutual
       let start = point at Passes n.first (order_edges 1 copies) in
       ap (put_split n.path orders n.first.span) (draw_orders-passages orders 1 es next ps)
       ∙ ap (λ ds. entering at (added ps ds)) (sym (all_in_turn-points start copies))
-      ∙ ap (λ way. entering way.to (added ps (all_in_turn start copies).points)) (sym (all_in_turn-enters start copies))
+      ∙ ap (λ way. entering way.to (added ps (all_in_turn start copies).points))
+      (sym (all_in_turn-enters start copies))
   draw-passage orders (form.Choice t e a b meeting) next ps =
       let at = place t.at.path orders Test in
       let meet = leads (place meeting.path orders After) in
@@ -114,7 +117,9 @@ mutual
       ∙ ap (λ d. draw orders e (put_held orders t (before_drawn fails third) d)) (draw-passage orders a meet second)
       ∙ ap (λ es. draw orders e (entering at (added second holds.points ++ (tested orders t es ∷ []))))
       (test_edges-drafted t.constancy holds.enters fails.enters)
-      ∙ draw-passage orders e (leads at) (added second holds.points ++ (tested orders t (map edge_drafted (either_way t.constancy holds.enters fails.enters)) ∷ []))
+      ∙ draw-passage orders e (leads at)
+      (added second holds.points ++
+      (tested orders t (map edge_drafted (either_way t.constancy holds.enters fails.enters)) ∷ []))
       ∙ ap (entering first.enters.to)
       (sym (choice-points ps first.points test.points holds.points fails.points met.points))
 

@@ -1,5 +1,6 @@
 mod Arrangements
 mod Choices
+mod Decisions
 mod DrawnPassages
 mod Nodes
 mod OperandLists

@@ -1,5 +1,6 @@
 -- Lists of operands: how deep they are, and those that hold calls.
-use Rattle.std.proofs.Common.{◌≡◌, ◌<◌, ◌≤◌, ◌+◌, ℕ, ℤ, pos, zero, suc, Bool, true, false, List, [], ◌∷◌, ◌++◌, length, map, take, drop, get_or, not}
+use Rattle.std.proofs.Common.{◌≡◌, ◌<◌, ◌≤◌, ◌+◌, ℕ, ℤ, pos, zero, suc, Bool, true, false}
+use Rattle.std.proofs.Common.{List, [], ◌∷◌, ◌++◌, length, map, take, drop, get_or, not}
 use Rattle.std.proofs.Common.{refl, sym, ap, subst, ◌∙◌, arith}
 use Rattle.std.proofs.lemmas.List.{at_drop_more}
 use Rattle.std.specs.Prelude.{if◌then◌else◌, max, nat_lt}
@@ -16,7 +17,8 @@ use Rattle.ck_tables.specs.declared.program.Linked.{Linked}
 
 -- rows of numbers -----------------------------------------------------------------------------------------------------
 
-pub read-within : (xs : List ℤ) (i : ℕ) (d : ℤ) → i < length xs → read (pos 0) (λ v. v) xs i ≡ get_or xs i d
+pub read-within : (xs : List ℤ) (i : ℕ) (d : ℤ) → i < length xs → read (pos 0) (λ v. v) xs i
+    ≡ get_or xs i d
 read-within [] i d h = absurd (omega arith)
 read-within (x ∷ xs) zero d h = refl
 read-within (x ∷ xs) (suc i) d h = read-within xs i d (omega arith)
@@ -40,23 +42,27 @@ drop-past (x ∷ xs) (suc i) h = drop-past xs i (omega arith)
 
 -- depth ---------------------------------------------------------------------------------------------------------------
 
-pub most_depth-last : (os : List Operand) (o : Operand) → most_depth (os ++ (o ∷ [])) ≡ max (most_depth os) (depth o)
+pub most_depth-last : (os : List Operand) (o : Operand) → most_depth (os ++ (o ∷ []))
+    ≡ max (most_depth os) (depth o)
 most_depth-last [] o = omega arith
 most_depth-last (p ∷ os) o = let h = most_depth-last os o in omega arith
 
 -- fits ----------------------------------------------------------------------------------------------------------------
 
-pub AllFit-last : (l : Linked) (os : List Operand) (o : Operand) → AllFit l os → Fits l o → AllFit l (os ++ (o ∷ []))
+pub AllFit-last : (l : Linked) (os : List Operand) (o : Operand) → AllFit l os → Fits l o →
+    AllFit l (os ++ (o ∷ []))
 AllFit-last l [] o all fits = (fits, tt)
 AllFit-last l (p ∷ os) o all fits = (all.0, AllFit-last l os o all.1 fits)
 
 -- operands with calls -------------------------------------------------------------------------------------------------
 
-counted-true : (b : Bool) (e : Evaluation) (es : List Evaluation) → b ≡ true → (if b then e ∷ es else es) ≡ e ∷ es
+counted-true : (b : Bool) (e : Evaluation) (es : List Evaluation) → b ≡ true → (if b then e ∷ es else es)
+    ≡ e ∷ es
 counted-true true e es h = refl
 counted-true false e es h = absurd (cc)
 
-counted-false : (b : Bool) (e : Evaluation) (es : List Evaluation) → b ≡ false → (if b then e ∷ es else es) ≡ es
+counted-false : (b : Bool) (e : Evaluation) (es : List Evaluation) → b ≡ false → (if b then e ∷ es else es)
+    ≡ es
 counted-false false e es h = refl
 counted-false true e es h = absurd (cc)
 
@@ -149,7 +155,8 @@ placed-itself l os order done rest later o so h =
       draws = λ orders d.
           so.draws orders d
           ∙ ap (draw_all orders (map (evaluation_of l) done))
-          (own_place (value_of l o).facts.holds_call orders (evaluation_of l o) (map (value_of l) rest) (map (evaluation_of l) later) d h)
+          (own_place (value_of l o).facts.holds_call orders (evaluation_of l o) (map (value_of l) rest)
+          (map (evaluation_of l) later) d h)
           ∙ sym (draw_all-map_last l orders done o (draw orders (arranged_evaluation l rest later) d));
     }
 
@@ -161,7 +168,8 @@ placed-in_order l os order done rest later o next so h =
       draws = λ orders d.
           so.draws orders d
           ∙ ap (draw_all orders (map (evaluation_of l) done))
-          (order_place (value_of l o).facts.holds_call orders (evaluation_of l o) (evaluation_of l next) (map (value_of l) rest) (map (evaluation_of l) later) d h)
+          (order_place (value_of l o).facts.holds_call orders (evaluation_of l o) (evaluation_of l next)
+          (map (value_of l) rest) (map (evaluation_of l) later) d h)
           ∙ sym (draw_all-map_last l orders done next (draw orders (arranged_evaluation l rest later) d));
     }
 
@@ -183,7 +191,8 @@ placed-all l os order done rest later none so =
     record {
       draws = λ orders d.
           so.draws orders d
-          ∙ ap (λ xs. draw_all orders (map (evaluation_of l) done) (draw orders (arranged_evaluation l xs later) d)) none;
+          ∙ ap (λ xs. draw_all orders (map (evaluation_of l) done)
+          (draw orders (arranged_evaluation l xs later) d)) none;
     }
 
 -- an operand of a list ------------------------------------------------------------------------------------------------

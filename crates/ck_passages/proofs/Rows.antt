@@ -1,6 +1,7 @@
 -- Chains and rows of suffixes: their evaluations are the values up to their ends, which are made from the last operator
 -- or suffix and the value before it.
-use Rattle.std.proofs.Common.{◌≡◌, ℕ, suc, ◌+◌, ◌-◌, ◌*◌, List, [], ◌∷◌, ◌++◌, length, refl, ap, ◌∙◌, arith}
+use Rattle.std.proofs.Common.{◌≡◌, ℕ, suc, ◌+◌, ◌-◌, ◌*◌, List, [], ◌∷◌, ◌++◌, length}
+use Rattle.std.proofs.Common.{refl, ap, ◌∙◌, arith}
 use Rattle.ck_passages.specs.Operands.{tree, value, link_value, links_value, step_value, steps_value, argument_values}
 use Rattle.ck_passages.specs.Operands.{chain_value, row_value}
 use Rattle.ck_points.specs.Evaluations.{Node, Value, Call, after_links, after_steps, values_of, suffixed, called}
@@ -28,7 +29,8 @@ module _ (l : Linked) where
   pub values_of-arguments : (π : Path) (k : ℕ) (xs : List ExprId) →
       values_of π k (arguments_of (tree l) xs) ≡ argument_values l π k xs
   values_of-arguments π k [] = refl
-  values_of-arguments π k (x ∷ xs) = ap (λ vs. value l (below π (part.ArgumentOf k)) x ∷ vs) (values_of-arguments π (suc k) xs)
+  values_of-arguments π k (x ∷ xs) =
+      ap (λ vs. value l (below π (part.ArgumentOf k)) x ∷ vs) (values_of-arguments π (suc k) xs)
 
   pub after_steps-value : (π : Path) (k : ℕ) (v : Value) (ss : List Step) →
       after_steps π k v (steps_of (readings l) (tree l) ss) ≡ (steps_value l π k v ss).evaluation
@@ -40,7 +42,8 @@ module _ (l : Linked) where
       let h = plain_facts (readings l) g in
       let n : Node = record { path = here; first = h.first } in
       let name = plain_entry (readings l) function in
-      ap (λ vs. after_steps π (suc k) (suffixed here h (Call n name (unsequenced n (called name v vs)))) (steps_of (readings l) (tree l) ss))
+      ap (λ vs. after_steps π (suc k) (suffixed here h (Call n name (unsequenced n (called name v vs))))
+      (steps_of (readings l) (tree l) ss))
       (values_of-arguments here 0 arguments.items)
       ∙ after_steps-value π (suc k) (step_value l here v (steps.Call opening function arguments g)) ss
   after_steps-value π k v (steps.Access is_dot name member g ∷ ss) =
@@ -61,13 +64,15 @@ module _ (l : Linked) where
   steps_value-last π k m v (t ∷ ss) s e =
       steps_value-last π (suc k) m (step_value l (below π (part.Suffix k)) v t) ss s (omega arith)
 
-  -- facts and paths ----------------------------------------------------------------------------------------------------
+  -- facts and paths ---------------------------------------------------------------------------------------------------
 
-  pub chain_value-facts : (π : Path) (first : ExprId) (ls rest : List Link) (x : Link) → ls ≡ rest ++ (x ∷ []) →
+  pub chain_value-facts : (π : Path) (first : ExprId) (ls rest : List Link) (x : Link) → ls
+      ≡ rest ++ (x ∷ []) →
       (chain_value l π first ls).facts ≡ plain_facts (readings l) x.facts
   chain_value-facts π first ls rest x same =
       ap (λ xs. (chain_value l π first xs).facts) same
-      ∙ ap (λ v. v.facts) (links_value-last π 0 (length rest) (value l (below π (part.Operand 0)) first) rest x (omega arith))
+      ∙ ap (λ v. v.facts)
+      (links_value-last π 0 (length rest) (value l (below π (part.Operand 0)) first) rest x (omega arith))
 
   step_value-facts : (here : Path) (v : Value) (s : Step) →
       (step_value l here v s).facts ≡ plain_facts (readings l) (step_facts s)
@@ -82,11 +87,13 @@ module _ (l : Linked) where
   step_value-path here v (steps.Access is_dot name member g) = refl
   step_value-path here v (steps.PostIncrement token operator g) = refl
 
-  pub row_value-facts : (π : Path) (primary : ExprId) (ss rest : List Step) (s : Step) → ss ≡ rest ++ (s ∷ []) →
+  pub row_value-facts : (π : Path) (primary : ExprId) (ss rest : List Step) (s : Step) → ss
+      ≡ rest ++ (s ∷ []) →
       (row_value l π primary ss).facts ≡ plain_facts (readings l) (step_facts s)
   row_value-facts π primary ss rest s same =
       ap (λ xs. (row_value l π primary xs).facts) same
-      ∙ ap (λ v. v.facts) (steps_value-last π 0 (length rest) (value l (below π part.Primary) primary) rest s (omega arith))
+      ∙ ap (λ v. v.facts)
+      (steps_value-last π 0 (length rest) (value l (below π part.Primary) primary) rest s (omega arith))
       ∙ step_value-facts (below π (part.Suffix (length rest))) (row_value l π primary rest) s
 
   links_value-path : (π : Path) (k n : ℕ) (v : Value) (ls : List Link) → n + 1 ≡ length ls →

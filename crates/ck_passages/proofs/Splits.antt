@@ -26,8 +26,10 @@ module _ (orders : List ℕ) (n : Node) (vs : List Value) (d : Drawn) where
       ∙ in_orders (a ∷ b ∷ []) is
 
   pub split-three : (a b c : Evaluation) (c1 c2 c3 c4 c5 c6 : Copies) → with_calls vs ≡ a ∷ b ∷ c ∷ [] →
-      c6 ≡ copied 6 (c ∷ b ∷ a ∷ []) none → c5 ≡ copied 5 (c ∷ a ∷ b ∷ []) c6 → c4 ≡ copied 4 (b ∷ c ∷ a ∷ []) c5 →
-      c3 ≡ copied 3 (b ∷ a ∷ c ∷ []) c4 → c2 ≡ copied 2 (a ∷ c ∷ b ∷ []) c3 → c1 ≡ copied 1 (a ∷ b ∷ c ∷ []) c2 →
+      c6 ≡ copied 6 (c ∷ b ∷ a ∷ []) none → c5 ≡ copied 5 (c ∷ a ∷ b ∷ []) c6 → c4
+      ≡ copied 4 (b ∷ c ∷ a ∷ []) c5 →
+      c3 ≡ copied 3 (b ∷ a ∷ c ∷ []) c4 → c2 ≡ copied 2 (a ∷ c ∷ b ∷ []) c3 → c1
+      ≡ copied 1 (a ∷ b ∷ c ∷ []) c2 →
       put_split n.path orders n.first.span c1 ≡ draw orders (unsequenced n vs) d
   split-three a b c c1 c2 c3 c4 c5 c6 is e6 e5 e4 e3 e2 e1 =
       ap (put_split n.path orders n.first.span)
@@ -40,9 +42,11 @@ module _ (orders : List ℕ) (n : Node) (vs : List Value) (d : Drawn) where
 
   -- where each copy leads to what comes after the operands
   pub copy-of : (k : ℕ) (es : List Evaluation) (before after : Copies) (to : Place) → to ≡ d.to →
-      after ≡ with_copy k (draw (orders ++ (k ∷ [])) (arranged vs es) (record { to = to; points = before.points })) before →
+      after ≡ with_copy k
+      (draw (orders ++ (k ∷ [])) (arranged vs es) (record { to = to; points = before.points })) before →
       after ≡ copied k es before
   copy-of k es before after to same is =
       is
-      ∙ ap (λ p. with_copy k (draw (orders ++ (k ∷ [])) (arranged vs es) (record { to = p; points = before.points })) before)
+      ∙ ap (λ p. with_copy k
+      (draw (orders ++ (k ∷ [])) (arranged vs es) (record { to = p; points = before.points })) before)
       same

@@ -1,5 +1,6 @@
 -- A walk along a chain or a row of suffixes, from its last operator or suffix to its first operand.
-use Rattle.std.proofs.Common.{◌≡◌, ◌<◌, ◌≤◌, ℕ, ◌*◌, Bool, true, false, List, [], ◌∷◌, ◌++◌, length, refl, ap, ◌∙◌, arith}
+use Rattle.std.proofs.Common.{◌≡◌, ◌<◌, ◌≤◌, ℕ, ◌*◌, Bool, true, false, List, [], ◌∷◌}
+use Rattle.std.proofs.Common.{◌++◌, length, refl, ap, ◌∙◌, arith}
 use Rattle.std.specs.Prelude.{if◌then◌else◌, nat_lt, ◌&&◌}
 use Rattle.ck_passages.specs.Drawing.{draw}
 use Rattle.ck_passages.specs.Operands.{value, chain_value, row_value, link_value, step_value}
@@ -116,7 +117,8 @@ step_depth-below n (steps.Access is_dot name member g) h = omega arith
 step_depth-below n (steps.PostIncrement token operator g) h = omega arith
 
 -- a suffix that names smaller numbers than a node names those of the table
-arguments_below-more : (m n : ℕ) → m ≤ n → (xs : List ExprId) → arguments_below m xs ≡ true → arguments_below n xs ≡ true
+arguments_below-more : (m n : ℕ) → m ≤ n → (xs : List ExprId) → arguments_below m xs ≡ true →
+    arguments_below n xs ≡ true
 arguments_below-more m n more [] h = refl
 arguments_below-more m n more (x ∷ xs) h =
     let hs = both (nat_lt x.0 m) (arguments_below m xs) h in

@@ -1,5 +1,6 @@
 -- The values of operands in a project's tables.
-use Rattle.std.specs.Prelude.{◌≡◌, ◌<◌, ◌+◌, ◌*◌, ℕ, suc, max, true, List, [], ◌∷◌, ◌++◌, map, length}
+use Rattle.std.specs.Prelude.{◌≡◌, ◌<◌, ◌+◌, ◌*◌, ℕ, suc, max, true, List, [], ◌∷◌}
+use Rattle.std.specs.Prelude.{◌++◌, map, length}
 use Rattle.ck_base.specs.declared.tokens.Token.{Token}
 use Rattle.ck_passages.specs.Drawing.{draw}
 use Rattle.ck_passages.specs.Points.{Drawn}

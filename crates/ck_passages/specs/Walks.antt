@@ -12,7 +12,9 @@ use Rattle.ck_passages.specs.declared.walk.Walk.{Walk}
 use Rattle.ck_points.specs.Evaluations.{Evaluation}
 use Rattle.ck_points.specs.Passages.{passage}
 use Rattle.ck_points.specs.Places.{Place, leads}
+use Rattle.ck_points.specs.Statements.{decided}
 use Rattle.ck_prog.specs.Paths.{Path}
+use Rattle.ck_prog.specs.TypedTrees.{Typed}
 use Rattle.ck_tables.specs.Program.{readings}
 use Rattle.ck_tables.specs.declared.program.Linked.{Linked}
 
@@ -30,6 +32,11 @@ Draws w e old new = made w new ≡ draw w.orders.now e (made w old)
 abbrev pub DrawsPassage : Walk → Evaluation → Drawing → Drawing → Type 0
 DrawsPassage w e old new =
     made w new ≡ before_drawn (passage w.orders.now e (leads (made w old).to)) (made w old).points
+
+-- 6.8.4.1, 6.8.5: a controlling expression was drawn, whose test leads to these places
+abbrev pub DrawsDecision : Walk → Path → Typed → Place → Place → Drawing → Drawing → Type 0
+DrawsDecision w π x holds fails old new =
+    made w new ≡ before_drawn (decided π x (leads holds) (leads fails)) (made w old).points
 
 abbrev pub DrawsWhere : Bool → Walk → Evaluation → Drawing → Drawing → Type 0
 DrawsWhere holds w e old new = made w new ≡ (if holds then draw w.orders.now e (made w old) else made w old)
@@ -61,7 +68,8 @@ abbrev pub copies_made : Walk → MadeCopies → Drawing → Copies
 copies_made w c d = record { edges = map plain_edge c.edges.items; points = (made w d).points }
 
 -- operands in an order of this number, before the copies in others
-pub record DrawsCopy (w : Walk) (k : ℕ) (os order : List Operand) (before : MadeCopies) (old : Drawing) (after : MadeCopies) (new : Drawing)
+pub record DrawsCopy (w : Walk) (k : ℕ) (os order : List Operand) (before : MadeCopies) (old : Drawing)
+    (after : MadeCopies) (new : Drawing)
     : Type 0 where
   pub to : plain_place after.to ≡ plain_place before.to
   pub is :

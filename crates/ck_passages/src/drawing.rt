@@ -155,7 +155,8 @@ impl Drawing {
         edges: Vec<DraftEdge>,
     ) -> Result<(), AllocError>
         ensures { (w : Readings) → OnOk result (drawn w self.new
-            ≡ spec.put (plain_place at) (plain_happening w happening) site (map plain_edge edges.items) (drawn w self.old).points) }
+            ≡ spec.put (plain_place at) (plain_happening w happening) site (map plain_edge edges.items)
+            (drawn w self.old).points) }
     {
         self.to = copied(alloc, &at)?;
         self.points.push(PassagePoint {
@@ -228,7 +229,11 @@ impl Drawing {
         edges: Vec<DraftEdge>,
     ) -> Result<(), AllocError>
         ensures { (w : Readings) → OnOk result (drawn w self.new
-            ≡ spec.put_split path.now orders.now site (record { edges = map plain_edge edges.items; points = (drawn w self.old).points })) }
+            ≡ spec.put_split path.now orders.now site (record {
+              edges = map plain_edge edges.items;
+              points =
+                  (drawn w self.old).points;
+            })) }
     {
         let at = place(alloc, path, orders, Side::Split)?;
         self.put(alloc, at, Happening::Passes, site, edges)

@@ -21,7 +21,9 @@ impl<'a> Walk<'a> {
     #[cycle(expressions)]
     fn expression(&self, x: ExprId, path: &[u32], drawing: &mut Drawing) -> Result<(), OutOfMemory>
         requires { x.0 < length (spec.tables self.now).exprs }
-        ensures { OnOk result (spec.Draws self.now (form.evaluation path.now (values.tree (spec.tables self.now) x.0)) drawing.old drawing.new) }
+        ensures { OnOk result
+            (spec.Draws self.now
+            (form.evaluation path.now (values.tree (spec.tables self.now) x.0)) drawing.old drawing.new) }
     {
         let node = self.program.expression(x);
         match node {
@@ -84,7 +86,8 @@ impl<'a> Walk<'a> {
     ) -> Result<(), OutOfMemory>
         requires { inner.0 < length (spec.tables self.now).exprs }
         ensures { OnOk result (spec.DrawsWhere holds_call self.now
-            (form.evaluation (part.below path.now part.Enclosed) (values.tree (spec.tables self.now) inner.0)) drawing.old drawing.new) }
+            (form.evaluation (part.below path.now part.Enclosed)
+            (values.tree (spec.tables self.now) inner.0)) drawing.old drawing.new) }
     {
         if !holds_call {
             return Ok(());
@@ -107,7 +110,10 @@ impl<'a> Walk<'a> {
         requires test { test.0 < length (spec.tables self.now).exprs }
         requires second { second.0 < length (spec.tables self.now).exprs }
         requires third { third.0 < length (spec.tables self.now).exprs }
-        ensures { OnOk result (spec.Draws self.now (values.conditional_evaluation (values.tree (spec.tables self.now)) path.now first test second third) drawing.old drawing.new) }
+        ensures { OnOk result
+            (spec.Draws self.now
+            (values.conditional_evaluation
+            (values.tree (spec.tables self.now)) path.now first test second third) drawing.old drawing.new) }
     {
         drawing.put_meeting(self.alloc, path, self.orders, first.span)?;
         let meet = drawing.next(self.alloc)?;
@@ -138,7 +144,10 @@ impl<'a> Walk<'a> {
     ) -> Result<(), OutOfMemory>
         requires target { target.0 < length (spec.tables self.now).exprs }
         requires value { value.0 < length (spec.tables self.now).exprs }
-        ensures { OnOk result (spec.Draws self.now (values.assignment_evaluation (values.tree (spec.tables self.now)) path.now first target value) drawing.old drawing.new) }
+        ensures { OnOk result
+            (spec.Draws self.now
+            (values.assignment_evaluation
+            (values.tree (spec.tables self.now)) path.now first target value) drawing.old drawing.new) }
     {
         let operands = [
             Operand::Whole {
@@ -168,7 +177,10 @@ impl<'a> Walk<'a> {
         requires node { of.0 < length (spec.tables self.now).exprs }
         requires first { first.0 < of.0 }
         requires links { links_below of.0 links.now ≡ true }
-        ensures { OnOk result (spec.Draws self.now (values.chain_value (spec.tables self.now) path.now first links.now).evaluation drawing.old drawing.new) }
+        ensures { OnOk result
+            (spec.Draws self.now
+            (values.chain_value
+            (spec.tables self.now) path.now first links.now).evaluation drawing.old drawing.new) }
     {
         let mut links = links;
         'links: while let Some(last) = links.split_last() {
@@ -201,7 +213,8 @@ impl<'a> Walk<'a> {
         requires left { values.Fits (spec.tables self.now) left.now }
         requires right { link.now.operand.0 < length (spec.tables self.now).exprs }
         ensures { IfOk result (spec.Leaves self.now
-            (values.link_value (spec.tables self.now) path.now number (values.value_of (spec.tables self.now) left.now) link.now).evaluation
+            (values.link_value (spec.tables self.now) path.now number
+            (values.value_of (spec.tables self.now) left.now) link.now).evaluation
             (values.evaluation_of (spec.tables self.now) left.now) drawing.old drawing.new) }
     {
         if !link.facts.holds_call {
@@ -252,7 +265,8 @@ impl<'a> Walk<'a> {
     ) -> Result<(), OutOfMemory>
         requires left { values.Fits (spec.tables self.now) left.now }
         requires right { values.Fits (spec.tables self.now) right.now }
-        ensures { OnOk result (spec.DrawsSecond self.now holds here.now first left.now right.now drawing.old drawing.new) }
+        ensures { OnOk result
+            (spec.DrawsSecond self.now holds here.now first left.now right.now drawing.old drawing.new) }
     {
         drawing.put_meeting(self.alloc, here, self.orders, first.span)?;
         let meet = drawing.next(self.alloc)?;
@@ -278,7 +292,10 @@ impl<'a> Walk<'a> {
         requires node { of.0 < length (spec.tables self.now).exprs }
         requires primary { primary.0 < of.0 }
         requires steps { steps_below of.0 steps.now ≡ true }
-        ensures { OnOk result (spec.Draws self.now (values.row_value (spec.tables self.now) path.now primary steps.now).evaluation drawing.old drawing.new) }
+        ensures { OnOk result
+            (spec.Draws self.now
+            (values.row_value
+            (spec.tables self.now) path.now primary steps.now).evaluation drawing.old drawing.new) }
     {
         let mut steps = steps;
         'steps: while let Some(last) = steps.split_last() {
@@ -311,7 +328,8 @@ impl<'a> Walk<'a> {
         requires left { values.Fits (spec.tables self.now) left.now }
         requires step { step_below (length (spec.tables self.now).exprs) step.now ≡ true }
         ensures { IfOk result (spec.Leaves self.now
-            (values.step_value (spec.tables self.now) here.now (values.value_of (spec.tables self.now) left.now) step.now).evaluation
+            (values.step_value (spec.tables self.now) here.now
+            (values.value_of (spec.tables self.now) left.now) step.now).evaluation
             (values.evaluation_of (spec.tables self.now) left.now) drawing.old drawing.new) }
     {
         match step {
@@ -350,7 +368,8 @@ impl<'a> Walk<'a> {
     #[cycle(expressions)]
     fn operand(&self, operand: &Operand<'_>, drawing: &mut Drawing) -> Result<(), OutOfMemory>
         requires { values.Fits (spec.tables self.now) operand.now }
-        ensures { OnOk result (spec.Draws self.now (values.evaluation_of (spec.tables self.now) operand.now) drawing.old drawing.new) }
+        ensures { OnOk result
+            (spec.Draws self.now (values.evaluation_of (spec.tables self.now) operand.now) drawing.old drawing.new) }
     {
         match operand {
             Operand::Whole {
@@ -414,7 +433,10 @@ impl<'a> Walk<'a> {
         drawing: &mut Drawing,
     ) -> Result<(), OutOfMemory>
         requires { values.AllFit (spec.tables self.now) operands.now }
-        ensures { OnOk result (spec.Draws self.now (values.unsequenced_evaluation (spec.tables self.now) here.now first operands.now) drawing.old drawing.new) }
+        ensures { OnOk result
+            (spec.Draws self.now
+            (values.unsequenced_evaluation
+            (spec.tables self.now) here.now first operands.now) drawing.old drawing.new) }
     {
         let in_calls = calling(self.alloc, self.program, operands)?;
         match in_calls.as_slice() {
@@ -452,7 +474,8 @@ impl<'a> Walk<'a> {
     ) -> Result<(), OutOfMemory>
         requires operands { values.AllFit (spec.tables self.now) operands.now }
         requires order { values.AllFit (spec.tables self.now) order.now }
-        ensures { OnOk result (spec.DrawsCopy self.now number operands.now order.now copies.old drawing.old copies.new drawing.new) }
+        ensures { OnOk result
+            (spec.DrawsCopy self.now number operands.now order.now copies.old drawing.old copies.new drawing.new) }
     {
         let orders = with_last(self.alloc, self.orders, number)?;
         let inner = Walk {
@@ -478,7 +501,9 @@ impl<'a> Walk<'a> {
     ) -> Result<(), OutOfMemory>
         requires operands { values.AllFit (spec.tables self.now) operands.now }
         requires order { values.AllFit (spec.tables self.now) order.now }
-        ensures { OnOk result (spec.Draws self.now (values.arranged_evaluation (spec.tables self.now) operands.now order.now) drawing.old drawing.new) }
+        ensures { OnOk result
+            (spec.Draws self.now
+            (values.arranged_evaluation (spec.tables self.now) operands.now order.now) drawing.old drawing.new) }
     {
         let sequence = placed(self.alloc, self.program, operands, order)?;
         let items = sequence.as_slice();
@@ -494,7 +519,9 @@ impl<'a> Walk<'a> {
     /// Draws an expression with this path: the points of its passage, from the last to the first, before what is drawn.
     pub fn draw(&self, x: ExprId, path: &[u32], drawing: &mut Drawing) -> Result<(), OutOfMemory>
         requires { x.0 < length (spec.tables self.now).exprs }
-        ensures { OnOk result (spec.DrawsPassage self.now (form.evaluation path.now (values.tree (spec.tables self.now) x.0)) drawing.old drawing.new) }
+        ensures { OnOk result
+            (spec.DrawsPassage self.now
+            (form.evaluation path.now (values.tree (spec.tables self.now) x.0)) drawing.old drawing.new) }
     {
         self.expression(x, path, drawing)?;
         Ok(())

@@ -1,8 +1,11 @@
 //! Operands: expressions, and chains and rows of suffixes up to some operator or suffix.
-ghost use Rattle.std.specs.Prelude.{◌≡◌, ◌<◌, ◌≤◌, ◌+◌, ◌++◌, [], ◌∷◌, true, length, map, max, take, IfOk};
+ghost use Rattle.std.specs.Prelude.{◌≡◌, ◌<◌, ◌≤◌, ◌+◌, ◌++◌, [], ◌∷◌, true, length};
+ghost use Rattle.std.specs.Prelude.{map, max, take, IfOk};
 ghost use Rattle.ck_passages.specs.Operands.{value_of, evaluation_of, argument_values, Fits, AllFit, IsPlaced};
 ghost use Rattle.ck_passages.specs.Operands.{depth, most_depth, arguments_depth};
 ghost use Rattle.ck_points.specs.Evaluations.{with_calls};
+ghost use Rattle.ck_passages.specs.Operands.{tree};
+ghost use Rattle.ck_prog.specs.TypedTrees.{facts};
 ghost use Rattle.ck_tables.specs.ExprTable.{arguments_below};
 ghost use Rattle.ck_tables.specs.Program.{readings};
 ghost use Rattle.ck_tables.specs.Readings.{plain_facts};
@@ -36,6 +39,14 @@ pub enum Operand<'a> {
         steps: &'a [Step],
         path: &'a [u32],
     },
+}
+
+/// What is known of an expression's value.
+pub(crate) fn expression_facts(program: &Program, x: ExprId) -> Facts
+    requires { x.0 < length program.now.linked.exprs }
+    ensures { plain_facts (readings program.now.linked) result ≡ facts (tree program.now.linked x.0) }
+{
+    program.linked().exprs.facts(x)
 }
 
 /// What is known of an operand's value.
@@ -149,8 +160,10 @@ pub(crate) fn argument_operands<'a>(
     here: &'a [u32],
     arguments: &[ExprId],
 ) -> Result<Vec<Operand<'a>>, OutOfMemory>
-    ensures fit { (l : Tables) → arguments_below (length l.exprs) arguments.now ≡ true → IfOk result (λ v. AllFit l v.items) }
-    ensures values { (l : Tables) → IfOk result (λ v. map (value_of l) v.items ≡ argument_values l here.now 0 arguments.now) }
+    ensures fit { (l : Tables) → arguments_below (length l.exprs) arguments.now ≡ true →
+        IfOk result (λ v. AllFit l v.items) }
+    ensures values { (l : Tables) →
+        IfOk result (λ v. map (value_of l) v.items ≡ argument_values l here.now 0 arguments.now) }
     ensures depth { IfOk result (λ v. most_depth v.items ≤ arguments_depth arguments.now) }
 {
     let mut operands = Vec::new(alloc);

@@ -1,5 +1,6 @@
 //! Laws about the definitions, each the contract of a function that does nothing.
-ghost use Rattle.ck_points.specs.Laws.{EdgesAreFew, EdgesFit, EdgesStay, GraphsAreSound, PlacesAreNumbered, PlacesDiffer};
+ghost use Rattle.ck_points.specs.Laws.{EdgesAreFew, EdgesFit, EdgesStay};
+ghost use Rattle.ck_points.specs.Laws.{GraphsAreSound, PlacesAreNumbered, PlacesDiffer};
 
 /// Each edge of a function leads to a point of the function.
 pub fn edges_stay()
@@ -11,8 +12,8 @@ pub fn edges_fit()
     ensures { EdgesFit }
 {}
 
-/// A point has at most six edges more than its function has points, so that their number fits 32 bits where the limit of
-/// points is kept.
+/// A point has at most six edges more than its function has points, so that their number fits 32 bits where the
+/// limit of points is kept.
 pub fn edges_are_few()
     ensures { EdgesAreFew }
 {}

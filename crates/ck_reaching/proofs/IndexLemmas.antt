@@ -56,8 +56,9 @@ adds-pushed items i number was is within read pushed =
     let below : i < length lists = omega (arith, within, length-map items items_of) in
     record {
       size = ap length new ∙ length-set lists i (numbers_at lists i ++ number ∷ []);
-      exactly = λ k n. subst (λ l. Contains (numbers_at l k) n ↔ (Contains (numbers_at lists k) n ⊎ ((k ≡ i) × (n ≡ number))))
-          (sym new) (adds-one lists i number below k n);
+      exactly = λ k n. subst
+          (λ l. Contains (numbers_at l k) n ↔ (Contains (numbers_at lists k) n ⊎ ((k ≡ i) × (n ≡ number)))) (sym new)
+          (adds-one lists i number below k n);
     }
 
 pub length-pushed : (items new : List (Vec ℕ Global)) (numbers : Vec ℕ Global) → new ≡ items ++ numbers ∷ [] →

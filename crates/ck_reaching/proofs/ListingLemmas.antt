@@ -44,11 +44,14 @@ stacked-put old new number within pushed set_is is = record {
       (λ e. Contains-push old.stack number)
       (λ k ne e. Contains-append_left old.stack (number ∷ []) k (is.there k e)) n
       (subst (λ flags. flag_at flags n ≡ true) set_is e));
-  below = λ n has. subst (λ flags. n < length flags) (sym set_is) (subst (λ m. n < m) (sym (length-set old.flags number true))
-      (elim (Contains-push_cases old.stack number n (subst (λ s. Contains s n) pushed has)) [
+  below = λ n has.
+      let size = length-set old.flags number true in
+      let before : n < size_of old = elim
+      (Contains-push_cases old.stack number n (subst (λ s. Contains s n) pushed has)) [
         | inl before ↦ is.below n before
         | inr e ↦ subst (λ m. m < size_of old) e within
-      ]));
+      ] in
+      subst (λ flags. n < length flags) (sym set_is) (omega (arith, before, size));
 }
 
 pub noted-put : (old new : Listing) (number : ℕ) → number < size_of old → new.stack ≡ old.stack ++ number ∷ [] →
@@ -70,7 +73,12 @@ noted-put old new number within pushed set_is =
     }
 
 pub noted-same : (l : Listing) (number : ℕ) → flag_at l.flags number ≡ true → IsNoted number l l
-noted-same l number flag = record { there = record { flag = flag }; kept = λ n is. is; count = omega arith; size = refl }
+noted-same l number flag = record {
+  there = record { flag = flag };
+  kept = λ n is. is;
+  count = omega arith;
+  size = refl;
+}
 
 -- the number that came last is taken
 pub taken-below : (old : Listing) (stack : List ℕ) (number : ℕ) → old.stack ≡ stack ++ number ∷ [] → IsStacked old →
@@ -88,7 +96,8 @@ stacked-taken old new number popped set_is is = record {
       (Contains-push_cases new.stack number k (subst (λ s. Contains s k) popped (is.there k e)))
       [ inl left ↦ left | inr same ↦ absurd (ne (sym same)) ]) n
       (subst (λ flags. flag_at flags n ≡ true) set_is e);
-  below = λ n has. subst (λ flags. n < length flags) (sym set_is) (subst (λ m. n < m) (sym (length-set old.flags number false))
+  below = λ n has. subst (λ flags. n < length flags) (sym set_is)
+      (subst (λ m. n < m) (sym (length-set old.flags number false))
       (is.below n (subst (λ s. Contains s n) (sym popped) (Contains-append_left new.stack (number ∷ []) n has))));
 }
 

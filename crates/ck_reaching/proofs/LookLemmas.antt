@@ -6,12 +6,14 @@ use Rattle.ck_rows.specs.declared.rows.Rows.{Rows}
 use Rattle.ck_reaching.specs.declared.rules.Call.{Call}
 use Rattle.ck_reaching.specs.declared.work.Work.{Work}
 use Rattle.ck_reaching.specs.Rules.{System, IsOfKind, function_count, width}
-use Rattle.ck_reaching.specs.Reached.{Holds}
+use Rattle.ck_reaching.specs.Reached.{Holds, set_at}
 use Rattle.ck_reaching.specs.Growth.{IsSized}
+use Rattle.ck_reaching.specs.Joins.{IsClearBetween}
 use Rattle.ck_reaching.specs.Indices.{numbers_at}
 use Rattle.ck_reaching.specs.Listing.{Listing, IsListed, size_of}
 use Rattle.ck_reaching.specs.Work.{Grows, HasEdge, IsSpread}
-use Rattle.ck_reaching.specs.Solving.{IsWorkOf, Advances, AreConnected, IsConnected, ConnectsBelow, ConnectsNew, AreCalls, IsLook, IsClosedBut}
+use Rattle.ck_reaching.specs.Solving.{IsWorkOf, Advances, AreConnected, IsConnected, ConnectsBelow, ConnectsNew}
+use Rattle.ck_reaching.specs.Solving.{AreCalls, IsLook, IsClosedBut}
 use Rattle.ck_reaching.proofs.RuleLemmas.{reaches-below}
 use Rattle.ck_reaching.proofs.ConnectLemmas.{Advances-none, Advances-then, Advances-spread, IsConnected-grows}
 
@@ -33,21 +35,24 @@ AreConnected-seen s cell g old new edges exactly met are number call is f h kind
           (met number call is x.0 (subst (IsOfKind s call.kind.0) x.1 kind))
     ]
 
-pub ConnectsBelow-more : (s : System) (cell n : ℕ) (seen seen' : List (List Rows)) (old mid new : Work) →
-    ConnectsBelow s cell n seen old mid → Advances s mid new → IsSized s.cells (width s) seen' →
-    AreConnected s seen' new.edges → ((c f : ℕ) → Holds seen c f → Holds seen' c f) →
-    (Holds mid.known.reached cell n → Holds seen' cell n) → ConnectsBelow s cell (n + 1) seen' old new
-ConnectsBelow-more s cell n seen seen' old mid new first then sized connected kept met = record {
+pub ConnectsBelow-more : (s : System) (cell n g : ℕ) (seen seen' : List (List Rows)) (old mid new : Work) →
+    IsClearBetween (set_at mid.known.reached cell) n g → ConnectsBelow s cell n seen old mid → Advances s mid new →
+    IsSized s.cells (width s) seen' → AreConnected s seen' new.edges →
+    ((c f : ℕ) → Holds seen c f → Holds seen' c f) → (Holds mid.known.reached cell g → Holds seen' cell g) →
+    ConnectsBelow s cell (g + 1) seen' old new
+ConnectsBelow-more s cell n g seen seen' old mid new clear first then sized connected kept met = record {
   advances = Advances-then s old mid new first.advances then;
   sized = sized;
   connected = connected;
-  met = λ f below h. elim (cases_lt f n) [
-    | inl lt ↦ kept cell f (first.met f lt h)
-    | inr past ↦
-        let e : f ≡ n = omega (arith, past, below) in
-        subst (Holds seen' cell) (sym e)
-        (met (subst (Holds mid.known.reached cell) e (first.advances.grows.gains.kept cell f h)))
-  ];
+  met = λ f below h.
+      let now = first.advances.grows.gains.kept cell f h in
+      elim (cases_lt f n) [
+        | inl lt ↦ kept cell f (first.met f lt h)
+        | inr past ↦ elim (cases_eq f g) [
+          | inl e ↦ subst (Holds seen' cell) (sym e) (met (subst (Holds mid.known.reached cell) e now))
+          | inr ne ↦ absurd (clear f past (omega (arith, below, ne)) now)
+        ]
+      ];
 }
 
 -- with no call through the cell there is nothing to connect
@@ -109,7 +114,8 @@ closed-look s p seen before taken new same same' others closed look =
       calls = λ number call is un f h kind. elim (cases_eq call.called.0 p) [
         | inl at ↦ look.connected number call is f
             (subst (λ q. Holds seen q f) (sym at)
-            (look.met number (call, is, at) f (subst (λ q. Holds taken.known.reached q f) at (old call.called.0 un f h)))) kind
+            (look.met number (call, is, at) f
+            (subst (λ q. Holds taken.known.reached q f) at (old call.called.0 un f h)))) kind
         | inr ne ↦ IsConnected-grows s taken new call f grows
             (subst (λ t. IsConnected s t call f) (sym same')
             (closed.calls number call is (unlisted call.called.0 un ne) f

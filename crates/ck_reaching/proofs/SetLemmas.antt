@@ -1,6 +1,7 @@
 -- Sets of functions, block by block.
-use Rattle.std.proofs.Common.{◌≡◌, ◌≢◌, ℕ, ◌+◌, ◌<◌, ◌≤◌, ◌/◌, ◌%◌, ◌⊎◌, Bool, true, false, ◌||◌, List, length, set, get_or}
-use Rattle.std.proofs.Common.{◌↔◌, IsTrue, replicate, refl, sym, ap, ◌∙◌, subst, inl, inr, arith, get_or-set_same, get_or-set_other}
+use Rattle.std.proofs.Common.{◌≡◌, ◌≢◌, ℕ, ◌+◌, ◌<◌, ◌≤◌, ◌/◌, ◌%◌, ◌⊎◌, ◌↔◌, ◌||◌, ◌∙◌, Bool, true, false}
+use Rattle.std.proofs.Common.{IsTrue, List, length, set, get_or, replicate, refl, sym, ap, subst, inl, inr, arith}
+use Rattle.std.proofs.Common.{get_or-set_same, get_or-set_other}
 use Rattle.std.proofs.lemmas.Bool.{cases_eq, cases_lt}
 use Rattle.std.proofs.lemmas.List.{set-get_or, get_or_read, get_or_past, get_or-replicate, length-replicate}
 use Rattle.std.proofs.lemmas.List.Sums.{sum_by-set}
@@ -10,7 +11,7 @@ use Rattle.ck_rows.specs.declared.rows.Rows.{Rows}
 use Rattle.ck_rows.specs.Relation.{Relates}
 use Rattle.ck_rows.specs.Room.{room}
 use Rattle.ck_reaching.specs.Sets.{Has, block_at, no_block}
-use Rattle.ck_reaching.specs.Joins.{set_room, IsJoin}
+use Rattle.ck_reaching.specs.Joins.{set_room, IsJoin, IsUnion}
 
 -- what holds of the block that was written, and of the others as they were, holds of each
 pub by_block : (blocks : List Rows) (i : ℕ) (block : Rows) (P : ℕ → Rows → Type 0) → i < length blocks → P i block →
@@ -54,6 +55,16 @@ Has-read set f block answer within read says =
       λ h. says.1 (subst (λ b. Relates b (f / 16 % 16) (f % 16)) (sym at) h.bit),
     )
 
+-- a mask without a bit has none of its sixteen functions
+pub clear-line : (set : List Rows) (f g : ℕ) (block : Rows) → g / 16 / 16 < length set →
+    block ≡ get_or set (g / 16 / 16) block → get_or block.mask (g / 16 % 16) 0 ≡ 0 → f / 16 ≡ g / 16 → Has set f → ⊥
+unfolding block_at
+clear-line set f g block within read zero e h =
+    let at : block ≡ block_at set (g / 16 / 16) = get_or_read set (g / 16 / 16) block within read no_block in
+    no_bit (get_or block.mask (g / 16 % 16) 0) (f % 16) zero
+    (subst (λ (b : Rows). bit_at (get_or b.mask (g / 16 % 16) 0) (f % 16) ≡ 1) (sym at)
+    (subst (λ l. bit_at (get_or (block_at set (l / 16)).mask (l % 16) 0) (f % 16) ≡ 1) e h.bit.bit))
+
 -- a bit is set in one block
 pub Has-added : (old : List Rows) (g : ℕ) (block : Rows) → g / 16 / 16 < length old →
     Relates block (g / 16 % 16) (g % 16) →
@@ -94,15 +105,6 @@ Has-replicate n block none set same f h = elim (cases_lt (f / 16 / 16) n) [
       (ap (λ s. get_or s (f / 16 / 16) no_block) same ∙
       get_or_past (replicate n block) (f / 16 / 16) no_block (omega (arith, past, length-replicate n block))) h.bit)
 ]
-
--- what a union does to one block
-pub record IsUnion (old given new : Rows) (grew : Bool) : Type 0 where
-  pub kept : (i j : ℕ) → Relates old i j → Relates new i j
-  pub added : (i j : ℕ) → Relates given i j → Relates new i j
-  pub only : (i j : ℕ) → Relates new i j → Relates old i j ⊎ Relates given i j
-  pub same : grew ≡ false → new ≡ old
-  pub room_left : room new ≤ room old
-  pub less_left : grew ≡ true → room new < room old
 
 -- the first n blocks were joined
 pub record IsJoinedBelow (n : ℕ) (old given new : List Rows) (grew : Bool) : Type 0 where

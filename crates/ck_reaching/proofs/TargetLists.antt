@@ -1,8 +1,8 @@
 -- The targets of a call, as they are listed.
-use Rattle.std.proofs.Common.{◌≡◌, ◌↔◌, ℕ, ◌+◌, ◌<◌, ◌≤◌, List, [], ◌∷◌, ◌++◌, length, get_or, sym, ap, ◌∙◌}
+use Rattle.std.proofs.Common.{◌≡◌, ◌↔◌, ℕ, ◌+◌, ◌<◌, ◌≤◌, List, [], ◌∷◌, ◌++◌, get_or, sym, ap, ◌∙◌}
 use Rattle.std.proofs.Common.{subst, inl, inr, arith}
 use Rattle.std.specs.List.{AllPairs, Contains}
-use Rattle.std.proofs.lemmas.Bool.{cases_eq}
+use Rattle.std.proofs.lemmas.Bool.{cases_eq, cases_lt}
 use Rattle.std.proofs.lemmas.List.Elements.{Contains-get_or, Contains-push, Contains-push_cases, Contains-append_left}
 use Rattle.std.proofs.lemmas.List.Quantifiers.{all_pairs_push}
 use Rattle.ck_base.specs.declared.spans.FnId.{FnId}
@@ -22,15 +22,6 @@ kind-target s call f (Reached kind r) = kind
 pub record AreTargetsBelow (s : System) (call : Call) (n : ℕ) (targets : List FnId) : Type 0 where
   pub ordered : AllPairs (λ f g. f.0 < g.0) targets
   pub exactly : (f : FnId) → Contains targets f ↔ ((f.0 < n) × IsTarget s call f.0)
-
-pub targets-none : (s : System) (call : Call) (targets : List FnId) → targets ≡ [] → AreTargetsBelow s call 0 targets
-targets-none s call targets empty = record {
-  ordered = λ i j d below within. absurd (omega (arith, within, ap length empty));
-  exactly = λ f. (
-    λ there. absurd (omega (arith, there.1, ap length empty)),
-    λ w. absurd (omega (arith, w.0)),
-  );
-}
 
 one : (f : FnId) (n : ℕ) → f.0 ≡ n → (g : FnId) → g.0 ≡ n → g ≡ f
 one f n is g same = ap (λ k. let x : FnId = record { 0 = k } in x) (same ∙ sym is)
@@ -54,15 +45,17 @@ targets-more s call n f old new is pushed target before = record {
   );
 }
 
-pub targets-same : (s : System) (call : Call) (n : ℕ) (targets : List FnId) → (IsTarget s call n → ⊥) →
-    AreTargetsBelow s call n targets → AreTargetsBelow s call (n + 1) targets
-targets-same s call n targets other before = record {
+-- no target from a number on and before another
+pub targets-gap : (s : System) (call : Call) (n m : ℕ) (targets : List FnId) → n ≤ m →
+    ((f : ℕ) → n ≤ f → f < m → IsTarget s call f → ⊥) → AreTargetsBelow s call n targets →
+    AreTargetsBelow s call m targets
+targets-gap s call n m targets up other before = record {
   ordered = before.ordered;
   exactly = λ f. (
-    λ there. let w = (before.exactly f).0 there in (omega (arith, w.0), w.1),
-    λ w. elim (cases_eq f.0 n) [
-      | inl e ↦ absurd (other (subst (IsTarget s call) e w.1))
-      | inr ne ↦ (before.exactly f).1 (omega (arith, w.0, ne), w.1)
+    λ there. let w = (before.exactly f).0 there in (omega (arith, w.0, up), w.1),
+    λ w. elim (cases_lt f.0 n) [
+      | inl lt ↦ (before.exactly f).1 (lt, w.1)
+      | inr past ↦ absurd (other f.0 past w.0 w.1)
     ],
   );
 }

@@ -1,6 +1,7 @@
 -- The cells that are still to be looked at: a stack of their numbers, and for each number whether it is listed. It
 -- serves private contracts alone.
-use Rattle.std.specs.Prelude.{◌≡◌, ◌<◌, ◌≤◌, ◌+◌, ℕ, Bool, true, false, List, length, slice_index_or, Contains}
+use Rattle.std.specs.Prelude.{◌≡◌, ◌<◌, ◌≤◌, ◌+◌, ℕ, Bool, true, false}
+use Rattle.std.specs.Prelude.{List, length, slice_index_or, Contains}
 
 pub record Listing : Type 0 where
   pub stack : List ℕ

@@ -15,8 +15,8 @@ module _ (s : System) where
       ByName : (n : Names) → Contains s.names n → Reaches n.to.0 n.function.0
       ByFlow : {f : ℕ} (w : Flows) → Contains s.flows w → Reaches w.from.0 f → Reaches w.to.0 f
       -- what reaches an argument reaches the parameter of its place of each target
-      ByArgument : {f target : ℕ} {a p : CellId} (call : Call) (callee : Callee) (place : ℕ) → Contains s.calls call
-          → IsTarget call target → slice_get s.callees target ≡ Some callee
+      ByArgument : {f target : ℕ} {a p : CellId} (call : Call) (callee : Callee) (place : ℕ)
+          → Contains s.calls call → IsTarget call target → slice_get s.callees target ≡ Some callee
           → slice_get call.arguments.items place ≡ Some (Some a)
           → slice_get callee.parameters.items place ≡ Some (Some p) → Reaches a.0 f → Reaches p.0 f
       -- what reaches the result of a target reaches the result of the call

@@ -1,6 +1,7 @@
 -- Rules by which functions reach cells, as plain lists. Functions, cells, kinds and calls are known by their numbers,
 -- which are their places.
-use Rattle.std.specs.Prelude.{◌≡◌, ◌<◌, ◌+◌, ◌/◌, ◌^◌, ℕ, List, Option, Some, length, slice_get, All}
+use Rattle.std.specs.Prelude.{◌≡◌, ◌<◌, ◌+◌, ◌/◌, ◌^◌, ℕ, List, Option}
+use Rattle.std.specs.Prelude.{Some, length, slice_get, All}
 use Rattle.ck_rows.specs.declared.rows.Rows.{Rows}
 use Rattle.ck_reaching.specs.declared.rules.CellId.{CellId}
 use Rattle.ck_reaching.specs.declared.rules.Names.{Names}

@@ -63,8 +63,8 @@ module _ (s : System) where
   -- the calls through each cell are connected with the functions that were seen there
   abbrev pub AreConnected : List (List Rows) → List (List ℕ) → Type 0
   AreConnected seen edges =
-      (number : ℕ) (call : Call) → slice_get s.calls number ≡ Some call → (f : ℕ) → Holds seen call.called.0 f →
-      IsOfKind s call.kind.0 f → IsConnected edges call f
+      (number : ℕ) (call : Call) → slice_get s.calls number ≡ Some call → (f : ℕ) →
+      Holds seen call.called.0 f → IsOfKind s call.kind.0 f → IsConnected edges call f
 
   pub record Connects (call : Call) (target : ℕ) (old new : Work) : Type 0 where
     pub advances : Advances old new
@@ -88,14 +88,16 @@ module _ (s : System) where
     pub advances : Advances old new
     pub sized : IsSized s.cells (width s) seen
     pub connected : AreConnected seen new.edges
-    pub met : (number : ℕ) → IsCallAt cell number → (f : ℕ) → Holds old.known.reached cell f → Holds seen cell f
+    pub met :
+        (number : ℕ) → IsCallAt cell number → (f : ℕ) → Holds old.known.reached cell f → Holds seen cell f
 
   -- a cell was looked at: what had reached it went along its edges, and was seen by its calls
   pub record IsLook (cell : ℕ) (seen : List (List Rows)) (old new : Work) : Type 0 where
     pub advances : Advances old new
     pub sized : IsSized s.cells (width s) seen
     pub connected : AreConnected seen new.edges
-    pub met : (number : ℕ) → IsCallAt cell number → (f : ℕ) → Holds old.known.reached cell f → Holds seen cell f
+    pub met :
+        (number : ℕ) → IsCallAt cell number → (f : ℕ) → Holds old.known.reached cell f → Holds seen cell f
     pub passed :
         (to f : ℕ) → HasEdge old.edges cell to → Holds old.known.reached cell f → Holds new.known.reached to f
 

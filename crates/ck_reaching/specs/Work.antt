@@ -42,13 +42,15 @@ pub record AddsEdgeIfAny (from to : Option CellId) (old new : Work) : Type 0 whe
   pub grows : Grows old new
   pub there : (a b : CellId) → from ≡ Some a → to ≡ Some b → HasEdge new.edges a.0 b.0
   pub adds :
-      (new ≡ old) ⊎ ((a : CellId) × (b : CellId) × (from ≡ Some a) × (to ≡ Some b) × AddsEdge a.0 b.0 old new)
+      (new ≡ old)
+      ⊎ ((a : CellId) × (b : CellId) × (from ≡ Some a) × (to ≡ Some b) × AddsEdge a.0 b.0 old new)
 
 -- what was known at a cell was passed on along its edges
 pub record IsSpread (cell : ℕ) (old new : Work) : Type 0 where
   pub grows : Grows old new
   pub same : new.edges ≡ old.edges
-  pub passed : (to f : ℕ) → HasEdge old.edges cell to → Holds old.known.reached cell f → Holds new.known.reached to f
+  pub passed :
+      (to f : ℕ) → HasEdge old.edges cell to → Holds old.known.reached cell f → Holds new.known.reached to f
   pub only :
       (c f : ℕ) → Holds new.known.reached c f →
       Holds old.known.reached c f ⊎ (HasEdge old.edges cell c × Holds old.known.reached cell f)

@@ -10,11 +10,14 @@ ghost use Rattle.std.specs.Prelude.{
   length,
   IfOk,
   IsTrue,
+  MatchOption,
+  ◌≤◌,
 };
 ghost use Rattle.ck_reaching.specs.Reached.{Holds, IsSolution, AreTargets, set_at};
 ghost use Rattle.ck_reaching.specs.Reaching.{IsTarget};
 ghost use Rattle.ck_reaching.specs.Rules.{function_count};
 ghost use Rattle.ck_reaching.specs.Growth.{IsSized, KeepsSizes, IsAddition};
+ghost use Rattle.ck_reaching.specs.Joins.{IsClearBetween};
 
 use crate::rules::{Call, CellId, Rules};
 use crate::sets::FnSet;
@@ -73,23 +76,31 @@ impl Reached {
         requires kind { call.now.kind.0 < length rules.now.kinds }
         ensures { IfOk result (λ targets. AreTargets rules.now call.now targets.items) }
     {
+        let functions = rules.functions();
         let mut targets = Vec::new(alloc);
-        for number in 0..rules.functions() {
-            let function = FnId(number);
-            if self.may_call(rules, call, function) {
+        let mut number = 0;
+        'functions: while let Some(function) = self.next(call.called, number, functions) {
+            if rules.is_of_kind(function, call.kind) {
                 targets.push(function)?;
             }
+            number = function.0 + 1;
         }
         Ok(targets)
     }
 
-    /// Whether a call may call a function.
-    fn may_call(&self, rules: &Rules, call: &Call, function: FnId) -> bool
-        requires solved { IsSolution rules.now self.now }
-        requires kind { call.now.kind.0 < length rules.now.kinds }
-        ensures { IsTrue result ↔ IsTarget rules.now call.now function.0 }
+    /// The least function that reaches a cell, from a number on and before an end, if there is one.
+    pub(crate) fn next(&self, cell: CellId, from: u32, end: u32) -> Option<FnId>
+        ensures { MatchOption
+            result
+            (IsClearBetween (set_at self.now cell.0) from end)
+            (λ f. (from ≤ f.0) × (f.0 < end) × Holds self.now cell.0 f.0
+            × IsClearBetween (set_at self.now cell.0) from f.0) }
     {
-        self.reaches(call.called, function) && rules.is_of_kind(function, call.kind)
+        if (cell.0 as usize) < self.sets.len() {
+            self.sets[cell.0 as usize].next(from, end)
+        } else {
+            None
+        }
     }
 
     /// Adds that a function reaches a cell.

@@ -154,6 +154,19 @@ impl Rules {
         self.callees.len() as u32
     }
 
+    /// Adds a cell that nothing reaches yet. More cells than a u32 can number count as want of memory.
+    pub fn add_cell(&mut self) -> Result<CellId, OutOfMemory>
+        ensures cell { IfOk result (λ cell. cell.0 ≡ self.old.cells) }
+        ensures added { OnOk result (self.new ≡ record self.old { cells = self.old.cells + 1 }) }
+    {
+        if self.cells == u32::MAX {
+            return Err(OutOfMemory);
+        }
+        let cell = CellId(self.cells);
+        self.cells += 1;
+        Ok(cell)
+    }
+
     /// Adds a kind with its functions, a set made for the rules' functions.
     pub fn add_kind(&mut self, functions: FnSet) -> Result<KindId, OutOfMemory>
         requires { length functions ≡ width self.old }

@@ -12,9 +12,11 @@ ghost use Rattle.std.specs.Prelude.{
   length,
   IfOk,
   IsTrue,
+  ◌^◌,
+  MatchOption,
 };
 ghost use Rattle.ck_reaching.specs.Sets.{Has};
-ghost use Rattle.ck_reaching.specs.Joins.{IsJoin};
+ghost use Rattle.ck_reaching.specs.Joins.{IsClearBetween, IsJoin, IsUnion};
 
 use ck_base::{FnId, OutOfMemory};
 use ck_rows::{Rows, add_pair, has_pair, no_pairs, union_into};
@@ -59,6 +61,50 @@ impl FnSet {
         }
     }
 
+    /// The least function of the set from a number on and before an end, if there is one.
+    pub(crate) fn next(&self, from: u32, end: u32) -> Option<FnId>
+        ensures { MatchOption
+            result
+            (IsClearBetween self.now from end)
+            (λ f. (from ≤ f.0) × (f.0 < end) × Has self.now f.0 × IsClearBetween self.now from f.0) }
+    {
+        let mut number = from;
+        'numbers: while number < end {
+            if self.has(FnId(number)) {
+                return Some(FnId(number));
+            }
+            number = self.after(number);
+        }
+        None
+    }
+
+    /// A number after one that isn't in the set, before which no other is.
+    fn after(&self, number: u32) -> u32
+        requires small { number + 1 < 2 ^ 32 }
+        requires clear { Has self.now number → ⊥ }
+        ensures more { number < result }
+        ensures clear { IsClearBetween self.now number result }
+    {
+        if number % 16 != 0 {
+            return number + 1;
+        }
+        if !self.is_clear(number) {
+            return number + 1;
+        }
+        number.saturating_add(16)
+    }
+
+    /// Whether none of sixteen functions is in the set, where they are those of the mask that a number is in.
+    fn is_clear(&self, number: u32) -> bool
+        ensures { IsTrue result → (f : ℕ) → f / 16 ≡ number / 16 → Has self.now f → ⊥ }
+    {
+        let line = number as usize / 16;
+        if line / 16 >= self.blocks.len() {
+            return true;
+        }
+        self.blocks[line / 16].mask[line % 16] == 0
+    }
+
     /// Adds a function.
     pub fn add(&mut self, function: FnId)
         requires { function.0 / 256 < length self.old }
@@ -94,9 +140,19 @@ fn join_blocks(into: &mut [Rows], from: &[Rows]) -> bool
 {
     let mut grew = false;
     'joins: for (number, block) in from.iter().enumerate() {
-        if union_into(&mut into[number], block) {
+        if join_block(&mut into[number], block) {
             grew = true;
         }
     }
     grew
+}
+
+/// Adds the functions of another block, and answers whether one was new. Most blocks have none.
+fn join_block(into: &mut Rows, from: &Rows) -> bool
+    ensures { IsUnion into.old from.now into.new result }
+{
+    if from.mask == [0; 16] {
+        return false;
+    }
+    union_into(into, from)
 }

@@ -1,6 +1,18 @@
 //! The least table that the rules allow: a worklist of cells, each of which passes on what reaches it, until nothing is
 //! new anywhere.
-ghost use Rattle.std.specs.Prelude.{◌≡◌, ◌<◌, ◌+◌, ◌/◌, ℕ, length, Contains, IfOk, OnOk, slice_get, Some};
+ghost use Rattle.std.specs.Prelude.{
+  ◌≡◌,
+  ◌<◌,
+  ◌+◌,
+  ◌/◌,
+  ℕ,
+  length,
+  Contains,
+  IfOk,
+  OnOk,
+  slice_get,
+  Some,
+};
 ghost use Rattle.ck_reaching.specs.Rules.{IsOfKind, function_count, width};
 ghost use Rattle.ck_reaching.specs.Reaching.{Reaches, IsTarget};
 ghost use Rattle.ck_reaching.specs.Reached.{Holds, IsSolution};
@@ -173,8 +185,11 @@ fn connect_functions(
     requires cell { cell.0 < rules.now.cells }
     ensures { OnOk result (ConnectsBelow rules.now cell.0 (function_count rules.now) seen.new work.old work.new) }
 {
-    for number in 0..rules.functions() {
-        connect_if_new(rules, calls, seen, work, cell, FnId(number))?;
+    let functions = rules.functions();
+    let mut number = 0;
+    'functions: while let Some(function) = work.known.reached.next(cell, number, functions) {
+        connect_if_new(rules, calls, seen, work, cell, function)?;
+        number = function.0 + 1;
     }
     Ok(())
 }

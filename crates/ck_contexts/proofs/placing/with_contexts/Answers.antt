@@ -38,7 +38,12 @@ overflow_add-number c =
     goes-on c.args.calls c.loop-context.number c.loop-context.context-index (flow_of c.args.parts)
     (flow_of c.loop-context.parts) c.args.contexts.now c.context-item.result c.loop-context-test.true c.context-item.is
     c.loop-context.invariant.same c.loop-context.invariant.few c.requires.points c.requires.functions in
-    omega (arith, on.calls_fit, functions-few c.loop-context.number c.context-item.result, c.function_count-number.ensures)
+    omega (
+      arith,
+      on.calls_fit,
+      functions-few c.loop-context.number c.context-item.result,
+      c.function_count-number.ensures,
+    )
 
 pub loop-context-preserved : goal.loop-context-preserved
 loop-context-preserved c =

@@ -1,4 +1,5 @@
-use Rattle.std.proofs.Common.{◌≡◌, ◌≤◌, ◌+◌, [], ◌∷◌, ◌++◌, true, length, map, drop, get_or, ap, subst, sym, ◌∙◌, arith}
+use Rattle.std.proofs.Common.{◌≡◌, ◌≤◌, ◌+◌, [], ◌∷◌, ◌++◌, true, length, map, drop, get_or}
+use Rattle.std.proofs.Common.{ap, subst, sym, ◌∙◌, arith}
 use Rattle.std.proofs.lemmas.List.{at_drop_more}
 use Rattle.ck_passages.specs.Operands.{value, value_of, argument_values, arguments_depth, AllFit, most_depth}
 use Rattle.ck_passages.specs.declared.operands.Operand.{Operand}
@@ -26,7 +27,9 @@ loop-number-preserved c =
     record {
       fit = λ t below.
           let fits = inv.fit t below in
-          let next = arguments_below-next (length t.exprs) x later (subst (λ ys. arguments_below (length t.exprs) ys ≡ true) e fits.1) in
+          let next =
+          arguments_below-next (length t.exprs) x later (subst (λ ys. arguments_below (length t.exprs) ys
+          ≡ true) e fits.1) in
           (subst (AllFit t) (sym is) (AllFit-last t before o fits.0 next.0), next.1);
       values = λ t.
           argument_values-next t c.args.here.now i before o x later _

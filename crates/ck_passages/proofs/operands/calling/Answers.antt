@@ -1,4 +1,5 @@
-use Rattle.std.proofs.Common.{◌≡◌, ◌≤◌, ◌+◌, [], ◌∷◌, ◌++◌, map, drop, ap, subst, sym, ◌∙◌, arith}
+use Rattle.std.proofs.Common.{◌≡◌, ◌≤◌, ◌+◌, [], ◌∷◌, ◌++◌, map, drop, ap, subst, sym}
+use Rattle.std.proofs.Common.{◌∙◌, arith}
 use Rattle.ck_passages.specs.Operands.{value_of, evaluation_of, AllFit, most_depth}
 use Rattle.ck_passages.proofs.OperandLists.{drop-next, most_depth-last, AllFit-last, with_calls-next, with_calls-past}
 use Rattle.ck_points.specs.Evaluations.{with_calls}

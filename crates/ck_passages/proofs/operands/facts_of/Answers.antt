@@ -18,4 +18,5 @@ returns-in-Some-split_last c =
     ap (plain_facts (readings l)) c.facts-in-Some-split_last.ensures
     ∙ sym
     (ap (λ o. (value_of l o).facts) c.in-Row.is
-    ∙ row_value-facts l c.in-Row.path.now c.in-Row.primary c.in-Row.steps.now _ _ c.in-Some-split_last.ensures.cases.0)
+    ∙ row_value-facts l c.in-Row.path.now c.in-Row.primary c.in-Row.steps.now _ _
+    c.in-Some-split_last.ensures.cases.0)

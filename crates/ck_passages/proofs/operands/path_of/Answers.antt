@@ -8,7 +8,8 @@ returns-in_ok-below-in-Chain-2 c = λ l.
     c.in_ok-below-in-Chain-2.ensures
     ∙ sym
     (ap (λ o. (value_of l o).path) c.in-Chain.is
-    ∙ chain_value-path_last l c.in-Chain.path.now c.in-Chain.first c.in-Chain.links.now _ (let h = c.if-operators-eq0.false in omega arith))
+    ∙ chain_value-path_last l c.in-Chain.path.now c.in-Chain.first c.in-Chain.links.now _ (let h =
+    c.if-operators-eq0.false in omega arith))
 
 pub returns-in_ok-below-in-Row : goal.returns-in_ok-below-in-Row
 returns-in_ok-below-in-Row c = λ l.

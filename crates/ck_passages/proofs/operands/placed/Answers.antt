@@ -1,7 +1,9 @@
-use Rattle.std.proofs.Common.{◌≡◌, ◌≤◌, ◌+◌, [], ◌∷◌, ◌++◌, length, drop, ap, subst, sym, ◌∙◌, arith}
+use Rattle.std.proofs.Common.{◌≡◌, ◌≤◌, ◌+◌, [], ◌∷◌, ◌++◌, length, drop, ap, subst, sym}
+use Rattle.std.proofs.Common.{◌∙◌, arith}
 use Rattle.std.specs.Prelude.{max}
 use Rattle.ck_passages.specs.Operands.{AllFit, most_depth}
-use Rattle.ck_passages.proofs.OperandLists.{drop-next, drop-past, most_depth-last, AllFit-last, ArePlaced, not-true, not-false}
+use Rattle.ck_passages.proofs.OperandLists.{drop-next, drop-past, most_depth-last, AllFit-last, ArePlaced, not-true}
+use Rattle.ck_passages.proofs.OperandLists.{not-false}
 use Rattle.ck_passages.proofs.OperandLists.{placed-itself, placed-in_order, placed-nothing, placed-all}
 use Rattle.ck_passages.proofs.operands.placed.Goals as goal
 use Rattle.ck_passages.proofs.operands.placed.Goals.{then-not-facts_of+in_ok-push}
@@ -31,7 +33,8 @@ loop-operand-preserved c =
           let is = ap (λ v. v.items) w.sequence-is ∙ w.in_ok-push.ensures.items in
           let h = most_depth-last done o in
           let deeper : most_depth (done ++ (o ∷ [])) ≤ max (most_depth os) (most_depth order) = omega arith in
-          let own = placed-itself l os order done others (drop k order) o so (flag ∙ not-true _ w.if-not-facts_of.true) in
+          let own = placed-itself l os order done others (drop k order) o so (flag
+          ∙ not-true _ w.if-not-facts_of.true) in
           record {
             rest = rest.1;
             later = subst (λ j. AllFit l (drop j order)) (sym w.taken-is) inv.later;
@@ -47,7 +50,8 @@ loop-operand-preserved c =
       | else-not-facts_of+then-taken-order+in_ok-push-2 w ↦
           let next = w.index-order-taken.result in
           let is = ap (λ v. v.items) w.sequence-is ∙ w.in_ok-push-2.ensures.items in
-          let e2 : drop k order ≡ next ∷ drop (k + 1) order = drop-next order k next w.if-taken-order.true w.index-order-taken.is in
+          let e2 : drop k order ≡ next ∷ drop (k + 1) order =
+          drop-next order k next w.if-taken-order.true w.index-order-taken.is in
           let later = subst (AllFit l) e2 inv.later in
           let later_deep = subst (λ xs. most_depth xs ≤ most_depth order) e2 inv.later_depth in
           let h = most_depth-last done next in
@@ -56,7 +60,8 @@ loop-operand-preserved c =
           let more : k + 1 ≤ length order = let a = w.if-taken-order.true in omega arith in
           let own =
           placed-in_order l os order done others (drop (k + 1) order) o next
-          (subst (λ xs. ArePlaced l os order done (o ∷ others) xs) e2 so) (flag ∙ not-false _ w.if-not-facts_of.false) in
+          (subst (λ xs. ArePlaced l os order done (o ∷ others) xs) e2 so) (flag
+          ∙ not-false _ w.if-not-facts_of.false) in
           record {
             rest = rest.1;
             later = subst (λ j. AllFit l (drop j order)) (sym w.taken-is) later.1;
@@ -75,7 +80,8 @@ loop-operand-preserved c =
           let own =
           subst (λ xs. ArePlaced l os order done others xs) (sym e2)
           (placed-nothing l os order done others o
-          (subst (λ xs. ArePlaced l os order done (o ∷ others) xs) e2 so) (flag ∙ not-false _ w.if-not-facts_of.false)) in
+          (subst (λ xs. ArePlaced l os order done (o ∷ others) xs) e2 so) (flag
+          ∙ not-false _ w.if-not-facts_of.false)) in
           record {
             rest = rest.1;
             later = subst (λ j. AllFit l (drop j order)) (sym w.taken-is) inv.later;

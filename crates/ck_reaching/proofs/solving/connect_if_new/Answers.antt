@@ -22,5 +22,6 @@ returns-clause-connected c =
     let e = c.in_ok-connect_calls.ensures in
     AreConnected-seen s cell f c.args.seen.now c.insert.new.self new.edges c.insert.ensures.exactly
     (λ number call is at kind. e.connected number
-    (subst (λ xs. Contains xs number) (sym c.at.ensures) (c.requires.calls.all cell number (call, is, at))) call is kind)
+    (subst (λ xs. Contains xs number) (sym c.at.ensures) (c.requires.calls.all cell number (call, is, at))) call is
+    kind)
     (AreConnected-grows s c.args.seen.now c.args.work.now new e.advances.grows c.requires.connected)

@@ -1,10 +1,13 @@
-use Rattle.std.proofs.Common.{rules, ◌≡◌, ◌<◌, ◌≤◌, ◌+◌, ◌-◌, [], ◌∷◌, ◌++◌, true, length, map, take, ap, subst, sym, ◌∙◌}
+use Rattle.std.proofs.Common.{rules, ◌≡◌, ◌<◌, ◌≤◌, ◌+◌, ◌-◌, [], ◌∷◌, ◌++◌, true}
+use Rattle.std.proofs.Common.{length, map, take, ap, subst, sym, ◌∙◌}
 use Rattle.std.proofs.Common.{arith, OnOk, if◌then◌else◌}
 use Rattle.std.specs.Prelude.{max}
 use Rattle.ck_drafts.specs.Drafts.{plain_place, plain_edge}
 use Rattle.ck_passages.specs.Drawing.{draw, going_to, put_meeting, put_test}
-use Rattle.ck_passages.specs.Operands.{tree, value, chain_value, row_value, value_of, evaluation_of, link_value, step_value}
-use Rattle.ck_passages.specs.Operands.{arranged_evaluation, node_depth, row_depth, depth, most_depth, step_depth, draw_all}
+use Rattle.ck_passages.specs.Operands.{tree, value, chain_value, row_value, value_of, evaluation_of, link_value}
+use Rattle.ck_passages.specs.Operands.{step_value}
+use Rattle.ck_passages.specs.Operands.{arranged_evaluation, node_depth, row_depth, depth, most_depth, step_depth}
+use Rattle.ck_passages.specs.Operands.{draw_all}
 use Rattle.ck_passages.specs.Walks.{tables, made, copies_made}
 use Rattle.ck_passages.proofs.Arrangements.{first_of_all, unsequenced-one}
 use Rattle.ck_passages.proofs.Choices.{second-where_true, second-where_false, conditional-drawn, copy-made, two_items}
@@ -13,7 +16,8 @@ use Rattle.ck_passages.proofs.Nodes.{node-evaluation}
 use Rattle.ck_passages.proofs.OperandLists.{draw_all-map_last, length-map, less_apart, more_apart}
 use Rattle.ck_passages.proofs.Rows.{after_links-value, after_steps-value}
 use Rattle.ck_passages.proofs.Splits.{copied, copy-of, split-two, split-three}
-use Rattle.ck_passages.proofs.Walking.{chain-goes_on, chain-ends, row-goes_on, row-ends, links_below-last, steps_below-last}
+use Rattle.ck_passages.proofs.Walking.{chain-goes_on, chain-ends, row-goes_on, row-ends, links_below-last}
+use Rattle.ck_passages.proofs.Walking.{steps_below-last}
 use Rattle.ck_passages.proofs.Walking.{step_depth-below, step_below-more}
 use Rattle.ck_points.specs.Evaluations.{Node, with_calls, arranged, evaluation}
 use Rattle.ck_prog.specs.Paths as part
@@ -35,7 +39,8 @@ expression-returns-in-Postfix t c =
     node-evaluation l π c.args.x.0 _ _ c.expression-node.ensures.meaning c.in-Postfix.is
     ∙ after_steps-value l π 0 (value l (below π part.Primary) c.in-Postfix.primary) c.in-Postfix.steps.items
     ∙ ap (λ ss. (row_value l π c.in-Postfix.primary ss).evaluation) (sym c.as_slice-suffixes.ensures.value) in
-    subst (λ x. OnOk c.row.result (made w c.row.new.drawing ≡ draw w.orders.now x (made w c.args.drawing.now))) (sym e) c.row.ensures
+    subst (λ x. OnOk c.row.result (made w c.row.new.drawing ≡ draw w.orders.now x (made w c.args.drawing.now)))
+    (sym e) c.row.ensures
 
 pub expression-returns-in-Chain : goal.expression-returns-in-Chain
 expression-returns-in-Chain t c =
@@ -46,7 +51,8 @@ expression-returns-in-Chain t c =
     node-evaluation l π c.args.x.0 _ _ c.expression-node.ensures.meaning c.in-Chain.is
     ∙ after_links-value l π 0 (value l (below π (part.Operand 0)) c.in-Chain.first) c.in-Chain.links.items
     ∙ ap (λ ls. (chain_value l π c.in-Chain.first ls).evaluation) (sym c.as_slice-operators.ensures) in
-    subst (λ x. OnOk c.chain.result (made w c.chain.new.drawing ≡ draw w.orders.now x (made w c.args.drawing.now))) (sym e) c.chain.ensures
+    subst (λ x. OnOk c.chain.result (made w c.chain.new.drawing
+    ≡ draw w.orders.now x (made w c.args.drawing.now))) (sym e) c.chain.ensures
 
 -- chains -------------------------------------------------------------------------------------------------------------
 
@@ -65,7 +71,8 @@ chain-link-requires t c =
     let known : link.operand.0 < length (tables c.args.self.now).exprs = omega arith in
     let shorter : length rest + 1 ≤ length c.args.links.now =
     let n = c.in-Some.ensures.cases.1 in let s = c.links.invariant.shorter in omega arith in
-    let smaller : max (row_depth of (length rest)) (node_depth link.operand.0) + 9 < row_depth of (length c.args.links.now) = omega arith in
+    let smaller : max (row_depth of (length rest)) (node_depth link.operand.0) + 9 < row_depth of
+    (length c.args.links.now) = omega arith in
     search rules
 
 pub chain-links-preserved : goal.chain-links-preserved
@@ -85,11 +92,16 @@ chain-links-preserved t c =
     let b = links_below-last of rest link (subst (λ xs. links_below of xs ≡ true) same c.links.invariant.below) in
     let n = c.in-Some.ensures.cases.1 in
     let s = c.links.invariant.shorter in
-    let drawn = subst (λ k. draw w.orders.now (link_value l π k (chain_value l π first rest) link).evaluation d ≡ (if done then e else draw w.orders.now (chain_value l π first rest).evaluation e)) c.in_ok-number.ensures c.in_ok-link.ensures in
+    let drawn =
+    subst (λ k. draw w.orders.now (link_value l π k (chain_value l π first rest) link).evaluation d
+    ≡ (if done then e else draw w.orders.now
+    (chain_value l π first rest).evaluation e)) c.in_ok-number.ensures c.in_ok-link.ensures in
     record {
       below = b.0;
       shorter = omega arith;
-      is = chain-goes_on l w.orders.now π first _ d e done ls rest link same c.links.invariant.is drawn c.if-branch.false;
+      is =
+          chain-goes_on l w.orders.now π first _ d e done ls rest link same c.links.invariant.is drawn
+          c.if-branch.false;
     }
 
 pub chain-returns-then-branch : goal.chain-returns-then-branch
@@ -105,7 +117,10 @@ chain-returns-then-branch t c =
     let e = made w c.link.new.drawing in
     let done = c.in_ok-link.field-0 in
     let same : ls ≡ rest ++ (link ∷ []) = c.in-Some.ensures.cases.0 in
-    let drawn = subst (λ k. draw w.orders.now (link_value l π k (chain_value l π first rest) link).evaluation d ≡ (if done then e else draw w.orders.now (chain_value l π first rest).evaluation e)) c.in_ok-number.ensures c.in_ok-link.ensures in
+    let drawn =
+    subst (λ k. draw w.orders.now (link_value l π k (chain_value l π first rest) link).evaluation d
+    ≡ (if done then e else draw w.orders.now
+    (chain_value l π first rest).evaluation e)) c.in_ok-number.ensures c.in_ok-link.ensures in
     sym (chain-ends l w.orders.now π first _ d e done ls rest link same c.links.invariant.is drawn c.if-branch.true)
 
 -- rows of suffixes ---------------------------------------------------------------------------------------------------
@@ -121,11 +136,13 @@ row-step-requires t c =
     let under : steps_below of rest ≡ true = b.0 in
     let node : of < length (tables c.args.self.now).exprs = c.requires.node in
     let primary = c.requires.primary in
-    let known : step_below (length (tables c.args.self.now).exprs) s ≡ true = step_below-more of _ (omega arith) s b.1 in
+    let known : step_below (length (tables c.args.self.now).exprs) s ≡ true =
+    step_below-more of _ (omega arith) s b.1 in
     let deep = step_depth-below of s b.1 in
     let shorter : length rest + 1 ≤ length c.args.steps.now =
     let n = c.in-Some.ensures.cases.1 in let h = c.steps.invariant.shorter in omega arith in
-    let smaller : max (row_depth of (length rest)) (step_depth s) + 9 < row_depth of (length c.args.steps.now) = omega arith in
+    let smaller : max (row_depth of (length rest)) (step_depth s) + 9 < row_depth of (length c.args.steps.now) =
+    omega arith in
     search rules
 
 pub row-steps-preserved : goal.row-steps-preserved
@@ -146,7 +163,10 @@ row-steps-preserved t c =
     let n = c.in-Some.ensures.cases.1 in
     let h = c.steps.invariant.shorter in
     let here = c.as_slice-place.ensures.value ∙ c.in_ok-here.ensures ∙ ap (λ k. π ++ (k ∷ [])) (omega arith) in
-    let drawn = subst (λ p. draw w.orders.now (step_value l p (row_value l π first rest) s).evaluation d ≡ (if done then e else draw w.orders.now (row_value l π first rest).evaluation e)) here c.in_ok-step.ensures in
+    let drawn =
+    subst (λ p. draw w.orders.now (step_value l p (row_value l π first rest) s).evaluation d
+    ≡ (if done then e else draw w.orders.now
+    (row_value l π first rest).evaluation e)) here c.in_ok-step.ensures in
     record {
       below = b.0;
       shorter = omega arith;
@@ -167,7 +187,10 @@ row-returns-then-branch t c =
     let done = c.in_ok-step.field-0 in
     let same : ss ≡ rest ++ (s ∷ []) = c.in-Some.ensures.cases.0 in
     let here = c.as_slice-place.ensures.value ∙ c.in_ok-here.ensures ∙ ap (λ k. π ++ (k ∷ [])) (omega arith) in
-    let drawn = subst (λ p. draw w.orders.now (step_value l p (row_value l π first rest) s).evaluation d ≡ (if done then e else draw w.orders.now (row_value l π first rest).evaluation e)) here c.in_ok-step.ensures in
+    let drawn =
+    subst (λ p. draw w.orders.now (step_value l p (row_value l π first rest) s).evaluation d
+    ≡ (if done then e else draw w.orders.now
+    (row_value l π first rest).evaluation e)) here c.in_ok-step.ensures in
     sym (row-ends l w.orders.now π first _ d e done ss rest s same c.steps.invariant.is drawn c.if-branch.true)
 
 -- choices ------------------------------------------------------------------------------------------------------------
@@ -260,15 +283,20 @@ unsequenced-returns t c =
     ap (map (evaluation_of l)) c.as_slice.ensures.value ∙ c.in_ok-in_calls.ensures.calls in
     let count : length xs ≡ length (with_calls vs) = sym (length-map (evaluation_of l) xs) ∙ ap length calls in
     let two : length (with_calls vs) ≡ 2 → ⊥ = λ h. elim c.in_default-1.branch [
-      | unsequenced-in_default-via-then-as_slice-lt2 u ↦ less_apart (length xs) 2 2 u.if-as_slice-lt2-1.true (omega arith) (count ∙ h)
-      | unsequenced-in_default-via-else-as_slice-lt2+else-as_slice-lt3+else-this-lt4 u ↦ more_apart (length xs) 4 2 u.if-this-lt4-1.false (omega arith) (count ∙ h)
+      | unsequenced-in_default-via-then-as_slice-lt2 u ↦
+          less_apart (length xs) 2 2 u.if-as_slice-lt2-1.true (omega arith) (count ∙ h)
+      | unsequenced-in_default-via-else-as_slice-lt2+else-as_slice-lt3+else-this-lt4 u ↦
+          more_apart (length xs) 4 2 u.if-this-lt4-1.false (omega arith) (count ∙ h)
     ] in
     let three : length (with_calls vs) ≡ 3 → ⊥ = λ h. elim c.in_default-1.branch [
-      | unsequenced-in_default-via-then-as_slice-lt2 u ↦ less_apart (length xs) 2 3 u.if-as_slice-lt2-1.true (omega arith) (count ∙ h)
-      | unsequenced-in_default-via-else-as_slice-lt2+else-as_slice-lt3+else-this-lt4 u ↦ more_apart (length xs) 4 3 u.if-this-lt4-1.false (omega arith) (count ∙ h)
+      | unsequenced-in_default-via-then-as_slice-lt2 u ↦
+          less_apart (length xs) 2 3 u.if-as_slice-lt2-1.true (omega arith) (count ∙ h)
+      | unsequenced-in_default-via-else-as_slice-lt2+else-as_slice-lt3+else-this-lt4 u ↦
+          more_apart (length xs) 4 3 u.if-this-lt4-1.false (omega arith) (count ∙ h)
     ] in
     let n : Node = record { path = c.args.here.now; first = c.args.first } in
-    subst (λ x. OnOk c.arranged.result (made w c.arranged.new.drawing ≡ draw w.orders.now x (made w c.args.drawing.now)))
+    subst (λ x. OnOk c.arranged.result (made w c.arranged.new.drawing
+    ≡ draw w.orders.now x (made w c.args.drawing.now)))
     (sym (unsequenced-one n vs two three ∙ ap (arranged vs) (sym calls))) c.arranged.ensures
 
 pub unsequenced-returns-in-len2 : goal.unsequenced-returns-in-len2
@@ -291,7 +319,8 @@ unsequenced-returns-in-len2 t c =
     ∙ ap (map (evaluation_of l)) items in
     let copies = c.in_ok-copies-in-len2.copies in
     let to0 = c.in_ok-copies-in-len2.ensures.to r in
-    let none = ap (λ es. record { edges = map plain_edge es; points = d.points }) c.in_ok-copies-in-len2.ensures.edges in
+    let none =
+    ap (λ es. record { edges = map plain_edge es; points = d.points }) c.in_ok-copies-in-len2.ensures.edges in
     let s2 = c.in_ok-copy-in-len2.ensures in
     let s1 = c.in_ok-copy-in-len2-2.ensures in
     let c0 = copies_made w copies c.args.drawing.now in
@@ -324,7 +353,8 @@ unsequenced-returns-in-len3 t c =
     ∙ ap (map (evaluation_of l)) items in
     let copies = c.in_ok-copies-in-len3.copies in
     let to0 = c.in_ok-copies-in-len3.ensures.to r in
-    let none = ap (λ es. record { edges = map plain_edge es; points = d.points }) c.in_ok-copies-in-len3.ensures.edges in
+    let none =
+    ap (λ es. record { edges = map plain_edge es; points = d.points }) c.in_ok-copies-in-len3.ensures.edges in
     let s6 = c.in_ok-copy-in-len3.ensures in
     let s5 = c.in_ok-copy-in-len3-2.ensures in
     let s4 = c.in_ok-copy-in-len3-3.ensures in
@@ -345,7 +375,8 @@ unsequenced-returns-in-len3 t c =
     let to2 = s2.to ∙ to3 in
     c.in_ok-put_split-in-len3.ensures r
     ∙ split-three os n vs d ea eb ec c1 c2 c3 c4 c5 c6 calls
-    (copy-of os n vs d 6 (ec ∷ eb ∷ ea ∷ []) c0 c6 _ to0 s6.is ∙ ap (copied os n vs d 6 (ec ∷ eb ∷ ea ∷ [])) none)
+    (copy-of os n vs d 6 (ec ∷ eb ∷ ea ∷ []) c0 c6 _ to0 s6.is
+    ∙ ap (copied os n vs d 6 (ec ∷ eb ∷ ea ∷ [])) none)
     (copy-of os n vs d 5 (ec ∷ ea ∷ eb ∷ []) c6 c5 _ to6 s5.is)
     (copy-of os n vs d 4 (eb ∷ ec ∷ ea ∷ []) c5 c4 _ to5 s4.is)
     (copy-of os n vs d 3 (eb ∷ ea ∷ ec ∷ []) c4 c3 _ to4 s3.is)
@@ -382,11 +413,13 @@ after_left-returns t c =
 pub arranged-operand-requires : goal.arranged-operand-requires
 arranged-operand-requires t c =
     let fits = c.at-operand.ensures.fits in
-    let most : most_depth c.as_slice-items.result.now ≤ max (most_depth c.args.operands.now) (most_depth c.args.order.now) =
+    let most : most_depth c.as_slice-items.result.now ≤ max (most_depth c.args.operands.now)
+    (most_depth c.args.order.now) =
     subst (λ xs. most_depth xs ≤ max (most_depth c.args.operands.now) (most_depth c.args.order.now))
     (sym c.as_slice-items.ensures.value) c.in_ok-sequence.ensures.depth in
     let deep = c.at-operand.ensures.depth in
-    let smaller : depth c.at-operand.result.now + 1 < max (most_depth c.args.operands.now) (most_depth c.args.order.now) + 2 = omega arith in
+    let smaller : depth c.at-operand.result.now + 1 < max (most_depth c.args.operands.now)
+    (most_depth c.args.order.now) + 2 = omega arith in
     search rules
 
 pub arranged-places-preserved : goal.arranged-places-preserved

@@ -10,4 +10,5 @@ pub returns : goal.returns
 returns c =
     let d = made c.args.self.now c.args.drawing.now in
     c.in_ok-expression.ensures
-    ∙ draw-passage c.args.self.now.orders.now (evaluation c.args.path.now (tree (tables c.args.self.now) c.args.x.0)) (leads d.to) d.points
+    ∙ draw-passage c.args.self.now.orders.now
+    (evaluation c.args.path.now (tree (tables c.args.self.now) c.args.x.0)) (leads d.to) d.points

@@ -13,5 +13,6 @@ pub returns-else-line-len : goal.returns-else-line-len
 returns-else-line-len c = (
   λ t. absurd (cc t),
   λ h. absurd (Has-past c.self.inside.blocks.items c.args.function.0
-      (omega (arith, c.if-line-len.false, c.len.ensures)) (subst (λ s. Has s c.args.function.0) (sym c.self.view_is) h)),
+      (omega (arith, c.if-line-len.false, c.len.ensures))
+      (subst (λ s. Has s c.args.function.0) (sym c.self.view_is) h)),
 )

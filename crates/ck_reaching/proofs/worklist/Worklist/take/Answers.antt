@@ -1,4 +1,5 @@
-use Rattle.std.proofs.Common.{◌≡◌, ◌⊎◌, ◌<◌, ◌+◌, ◌∷◌, [], ℕ, Some, false, length, set, refl, ap, subst, inl, inr, arith}
+use Rattle.std.proofs.Common.{◌≡◌, ◌⊎◌, ◌<◌, ◌+◌, ◌∷◌, [], ℕ, Some, false, length}
+use Rattle.std.proofs.Common.{set, refl, ap, subst, inl, inr, arith}
 use Rattle.std.proofs.lemmas.List.{length-append}
 use Rattle.ck_reaching.specs.Listing.{Listing, IsListed, size_of}
 use Rattle.ck_reaching.proofs.ListingLemmas.{taken-below, stacked-taken, others-taken, no_other-taken}
