@@ -26,7 +26,6 @@ use Rattle.ck_tables.specs.ExprTable.{links_below, steps_below, step_below}
 use Rattle.ck_tables.specs.Program.{readings}
 use Rattle.ck_passages.proofs.walk.Walk.+expressions.Goals as goal
 use Rattle.ck_passages.proofs.walk.Walk.+expressions.Goals.{unsequenced-in_default-via-then-as_slice-lt2}
-use Rattle.ck_passages.proofs.walk.Walk.+expressions.Goals.{unsequenced-in_default-via-else-as_slice-lt2+else-as_slice-lt3+else-this-lt4}
 
 -- nodes --------------------------------------------------------------------------------------------------------------
 
@@ -285,13 +284,13 @@ unsequenced-returns t c =
     let two : length (with_calls vs) ≡ 2 → ⊥ = λ h. elim c.in_default-1.branch [
       | unsequenced-in_default-via-then-as_slice-lt2 u ↦
           less_apart (length xs) 2 2 u.if-as_slice-lt2-1.true (omega arith) (count ∙ h)
-      | unsequenced-in_default-via-else-as_slice-lt2+else-as_slice-lt3+else-this-lt4 u ↦
+      | goal.unsequenced-in_default-via-else-as_slice-lt2+else-as_slice-lt3+else-this-lt4 u ↦
           more_apart (length xs) 4 2 u.if-this-lt4-1.false (omega arith) (count ∙ h)
     ] in
     let three : length (with_calls vs) ≡ 3 → ⊥ = λ h. elim c.in_default-1.branch [
       | unsequenced-in_default-via-then-as_slice-lt2 u ↦
           less_apart (length xs) 2 3 u.if-as_slice-lt2-1.true (omega arith) (count ∙ h)
-      | unsequenced-in_default-via-else-as_slice-lt2+else-as_slice-lt3+else-this-lt4 u ↦
+      | goal.unsequenced-in_default-via-else-as_slice-lt2+else-as_slice-lt3+else-this-lt4 u ↦
           more_apart (length xs) 4 3 u.if-this-lt4-1.false (omega arith) (count ∙ h)
     ] in
     let n : Node = record { path = c.args.here.now; first = c.args.first } in
