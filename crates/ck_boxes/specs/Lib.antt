@@ -1,0 +1,2 @@
+-- How deep a tree nests, as it is kept
+pub mod Depths
