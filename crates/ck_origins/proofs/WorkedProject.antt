@@ -137,9 +137,10 @@ module _ (none one : Vec (Option CellId) Global) (is_none : none.items ≡ []) (
       let m = meanings 0 49 a b in
       let empty : AllZip (HasCell m) [] none.items = subst (AllZip (HasCell m) []) (sym is_none) tt in
       let single : AllZip (HasCell m) (None ∷ []) one.items =
-      subst (AllZip (HasCell m) (None ∷ [])) (sym is_one) (tt, tt) in
-      (record { parameters = empty; outcome = tt },
-      (record { parameters = empty; outcome = tt }, (record { parameters = single; outcome = tt }, tt)))
+      subst (AllZip (HasCell m) (None ∷ [])) (sym is_one) (tt, tt) in (
+        record { parameters = empty; outcome = tt },
+        (record { parameters = empty; outcome = tt }, (record { parameters = single; outcome = tt }, tt)),
+      )
 
   modelled : Models project (meanings 0 49 given.a given.b)
       (rules project 0 49 given.a given.b given.is no_calls given.of_a given.of_b numbers holders callees
