@@ -3,7 +3,8 @@ use Rattle.ck_boxes.proofs.DepthLemmas.{alone, both, end-nesting}
 use Rattle.ck_boxes.specs.Depths.{kept}
 use Rattle.ck_grammar.specs.Nesting.{declarator_nesting, more_params_nesting, params_nesting, specifiers_nesting}
 use Rattle.ck_grammar.specs.Trees as plain
-use Rattle.ck_syntax.specs.ExpressionViews.{declarator_tree, ellipsis_tree, parameter_before, parameter_trees, specifier_before}
+use Rattle.ck_syntax.specs.ExpressionViews.{declarator_tree, ellipsis_tree}
+use Rattle.ck_syntax.specs.ExpressionViews.{parameter_before, parameter_trees, specifier_before}
 use Rattle.ck_syntax.specs.ExpressionViews.{specifier_trees}
 use Rattle.ck_syntax.specs.Rows.{row_before}
 use Rattle.ck_boxes.proofs.boxed.BoxedBuilding.parameters.Goals as goal

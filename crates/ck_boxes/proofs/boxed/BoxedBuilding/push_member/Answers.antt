@@ -2,7 +2,8 @@ use Rattle.std.proofs.Common.{max, refl, ap, ◌∙◌}
 use Rattle.ck_boxes.proofs.DepthLemmas.{alone, both, element, grown, max-assoc}
 use Rattle.ck_grammar.specs.Nesting.{declarator_nesting, declarators_nesting, members_nesting, specifiers_nesting}
 use Rattle.ck_grammar.specs.Trees as plain
-use Rattle.ck_syntax.specs.ExpressionViews.{declarator_before, declarator_tree, declarator_trees, member_before, specifier_before}
+use Rattle.ck_syntax.specs.ExpressionViews.{declarator_before, declarator_tree}
+use Rattle.ck_syntax.specs.ExpressionViews.{declarator_trees, member_before, specifier_before}
 use Rattle.ck_syntax.specs.ExpressionViews.{specifier_trees}
 use Rattle.ck_syntax.specs.Rows.{row_before}
 use Rattle.ck_boxes.proofs.boxed.BoxedBuilding.push_member.Goals as goal
