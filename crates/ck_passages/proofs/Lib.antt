@@ -1,7 +1,7 @@
 mod Arrangements
 mod Choices
 mod Decisions
-mod DrawnPassages
+pub mod DrawnPassages
 mod Nodes
 mod OperandLists
 mod Rows

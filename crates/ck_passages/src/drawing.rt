@@ -75,12 +75,7 @@ pub(crate) fn with_last<T: Copy + Drop>(
 }
 
 /// A place.
-pub(crate) fn place(
-    alloc: Global,
-    path: &[u32],
-    orders: &[u8],
-    side: Side,
-) -> Result<Place, AllocError>
+pub fn place(alloc: Global, path: &[u32], orders: &[u8], side: Side) -> Result<Place, AllocError>
     ensures { IfOk result (λ p. plain_place p ≡ places.place path.now orders.now (plain_side side)) }
 {
     Ok(Place {
@@ -91,14 +86,14 @@ pub(crate) fn place(
 }
 
 /// The same place.
-pub(crate) fn copied(alloc: Global, at: &Place) -> Result<Place, AllocError>
+pub fn copied(alloc: Global, at: &Place) -> Result<Place, AllocError>
     ensures { IfOk result (λ p. plain_place p ≡ plain_place at.now) }
 {
     place(alloc, at.path.as_slice(), at.orders.as_slice(), at.side)
 }
 
 /// One plain edge.
-pub(crate) fn one_edge(alloc: Global, to: Place) -> Result<Vec<DraftEdge>, AllocError>
+pub fn one_edge(alloc: Global, to: Place) -> Result<Vec<DraftEdge>, AllocError>
     ensures { IfOk result (λ v. map plain_edge v.items ≡ spec.edge_to Plain (plain_place to) ∷ []) }
 {
     let mut edges = Vec::new(alloc);
@@ -137,7 +132,7 @@ impl Copies {
 impl Drawing {
     /// The place that comes next.
     #[tactic(auto, unfolding(crate::specs::Points::drawn))]
-    pub(crate) fn next(&self, alloc: Global) -> Result<Place, AllocError>
+    pub fn next(&self, alloc: Global) -> Result<Place, AllocError>
         ensures { (w : Readings) → IfOk result (λ p. plain_place p ≡ (drawn w self.now).to) }
     {
         let to = copied(alloc, &self.to)?;
@@ -146,7 +141,7 @@ impl Drawing {
 
     /// Puts a point, which is entered next.
     #[tactic(auto, unfolding(crate::specs::Points::drawn))]
-    pub(crate) fn put(
+    pub fn put(
         &mut self,
         alloc: Global,
         at: Place,
@@ -170,7 +165,7 @@ impl Drawing {
 
     /// Puts a point that leads to what was next.
     #[tactic(auto, unfolding(crate::specs::Points::drawn))]
-    pub(crate) fn put_passing(
+    pub fn put_passing(
         &mut self,
         alloc: Global,
         at: Place,
@@ -241,7 +236,7 @@ impl Drawing {
 
     /// Goes on to another place, and gives the one before.
     #[tactic(auto, unfolding(crate::specs::Points::drawn))]
-    pub(crate) fn turn_to(&mut self, to: Place) -> Place
+    pub fn turn_to(&mut self, to: Place) -> Place
         ensures drawn { (w : Readings) → drawn w self.new ≡ spec.going_to (plain_place to) (drawn w self.old) }
         ensures before { (w : Readings) → plain_place result ≡ (drawn w self.old).to }
     {

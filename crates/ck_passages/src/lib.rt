@@ -14,6 +14,6 @@ mod operands;
 mod tests;
 mod walk;
 
-pub use drawing::{Copies, Drawing, Happening, PassagePoint};
-pub use operands::Operand;
+pub use drawing::{Copies, Drawing, Happening, PassagePoint, copied, one_edge, place};
+pub use operands::{Operand, below, step_number};
 pub use walk::Walk;

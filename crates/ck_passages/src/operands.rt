@@ -69,7 +69,7 @@ pub(crate) fn facts_of(program: &Program, operand: &Operand<'_>) -> Facts
 }
 
 /// A step as a number of 32 bits.
-pub(crate) fn step_number(step: u64) -> Result<u32, OutOfMemory>
+pub fn step_number(step: u64) -> Result<u32, OutOfMemory>
     ensures { IfOk result (λ number. number ≡ step) }
 {
     match u32::try_from(step) {
@@ -79,7 +79,7 @@ pub(crate) fn step_number(step: u64) -> Result<u32, OutOfMemory>
 }
 
 /// The path of the part to which a step leads.
-pub(crate) fn below(alloc: Global, path: &[u32], step: u64) -> Result<Vec<u32>, OutOfMemory>
+pub fn below(alloc: Global, path: &[u32], step: u64) -> Result<Vec<u32>, OutOfMemory>
     ensures { IfOk result (λ v. v.items ≡ path.now ++ step ∷ []) }
 {
     let number = step_number(step)?;
