@@ -1,0 +1,9 @@
+pub mod Rows
+pub mod Drawing
+pub mod StatementsDrawn
+pub mod FunctionsDrawn
+pub mod Noted
+pub mod Names
+pub mod CaseEdges
+pub mod ItemRows
+pub mod Apart

@@ -1,0 +1,23 @@
+use Rattle.std.proofs.Common.{◌<◌, ◌≤◌, length, get_or, pos, ap, subst, sym, ◌∙◌}
+use Rattle.std.specs.Ordering.{int_eq}
+use Rattle.ck_tables.specs.Program.{value_of}
+use Rattle.ck_bodies.proofs.Rows.{read-within, read-past}
+use Rattle.ck_bodies.proofs.switches.are_same.Goals as goal
+
+pub returns-then-at-numbers : goal.returns-then-at-numbers
+returns-then-at-numbers c =
+    let i = c.args.other.0 in
+    let e = c.as_slice-numbers.ensures ∙ ap (λ l. l.values.rows.items) c.linked.ensures in
+    c.is_value.ensures
+    ∙ ap (int_eq (value_of c.args.program.now.linked c.args.value.0))
+    (ap (λ xs. get_or xs i (pos 0)) e
+    ∙ sym (read-within c.args.program.now.linked.values.rows.items i (pos 0)
+    (subst (λ xs. i < length xs) e c.if-at-numbers.true)))
+
+pub returns-else-at-numbers : goal.returns-else-at-numbers
+returns-else-at-numbers c =
+    c.is_value-else-at-numbers.ensures
+    ∙ ap (int_eq (value_of c.args.program.now.linked c.args.value.0))
+    (sym (read-past c.args.program.now.linked.values.rows.items c.args.other.0
+    (subst (λ xs. length xs ≤ c.args.other.0) (c.as_slice-numbers.ensures
+    ∙ ap (λ l. l.values.rows.items) c.linked.ensures) c.if-at-numbers.false)))
