@@ -12,8 +12,8 @@ use Rattle.ck_points.specs.Labels.{labels_from}
 use Rattle.ck_points.specs.Passages.{Passage, in_turn, passing}
 use Rattle.ck_points.specs.Places.{Place, Passes, EntersPair, LeavesPair, leads}
 use Rattle.ck_prog.specs.TypedBodies.{TypedFunction, TypedItems}
-use Rattle.ck_tables.specs.Readings.{Readings}
 use Rattle.ck_tables.specs.Rows.{IsRow}
+use Rattle.ck_tables.specs.declared.program.Linked.{Linked}
 use Rattle.ck_bodies.specs.DrawnFunctions.{inside, ending, plain_whole, pair_whole, draw_whole}
 use Rattle.ck_bodies.proofs.StatementsDrawn.{items-drawn}
 
@@ -105,9 +105,9 @@ module _ (name : Token) (is : TypedItems) where
 
 -- points in memory ----------------------------------------------------------------------------------------------------
 
-pub drawn-points : (w : Readings) (d : Drawing) → (drawn w d).points ≡ map (plain_point w) d.points.items
+pub drawn-points : (l : Linked) (d : Drawing) → (drawn l d).points ≡ map (plain_point l) d.points.items
 unfolding drawn
-drawn-points w d = refl
+drawn-points l d = refl
 
 pub same-row : {X : Type 0} (xs : List X) (i : ℕ) (x y : X) → IsRow xs i x → IsRow xs i y → x ≡ y
 same-row xs i x y a b = sym (a.is x) ∙ b.is x

@@ -6,7 +6,7 @@ use Rattle.ck_passages.specs.declared.drawing.Drawing.{Drawing}
 use Rattle.ck_points.specs.Evaluations.{Evaluation}
 use Rattle.ck_prog.specs.TypedBodies.{TypedInitialiser, TypedStatement}
 use Rattle.ck_tables.specs.InitTable.{init_at}
-use Rattle.ck_tables.specs.Program.{readings, with_expressions, body_readings}
+use Rattle.ck_tables.specs.Program.{with_expressions, body_readings}
 use Rattle.ck_tables.specs.StmtTable.{statement_at}
 use Rattle.ck_tables.specs.declared.inits.InitId.{InitId}
 use Rattle.ck_tables.specs.declared.inits.InitItem.{InitItem}
@@ -20,7 +20,7 @@ abbrev pub tables : BodyWalk → Linked
 tables w = w.program.now.linked
 
 abbrev pub made : BodyWalk → Drawing → Drawn
-made w d = drawn (readings (tables w)) d
+made w d = drawn (tables w) d
 
 -- the trees of numbers
 abbrev pub initialiser : Linked → ℕ → TypedInitialiser

@@ -10,7 +10,7 @@ ghost use Rattle.ck_passages.specs.Drawing.{put_passing};
 ghost use Rattle.ck_passages.specs.Points.{plain_happening};
 ghost use Rattle.ck_points.specs.Places as places;
 ghost use Rattle.ck_tables.specs.Numbers.{numbers, body_fits};
-ghost use Rattle.ck_tables.specs.Program.{readings, plain_body};
+ghost use Rattle.ck_tables.specs.Program.{plain_body};
 ghost use Rattle.ck_tables.specs.declared.program.Linked.{Linked as Tables};
 
 use crate::labels::Labels;
@@ -77,7 +77,7 @@ impl<'a> BodyWalk<'a> {
     ) -> Result<(), OutOfMemory>
         ensures { OnOk result (made self.now drawing.new
             ≡ put_passing (places.place [] [] (plain_side side))
-            (plain_happening (readings (tables self.now)) happening) name.span (made self.now drawing.old)) }
+            (plain_happening (tables self.now) happening) name.span (made self.now drawing.old)) }
     {
         let at = self.of_body(side)?;
         drawing.put_passing(self.alloc, at, happening, name.span)?;

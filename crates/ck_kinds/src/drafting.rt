@@ -1,11 +1,9 @@
 //! Drafts of the points of a function.
-ghost use Rattle.std.specs.Prelude.{◌≡◌, ◌<◌, length, map, true, Some, IfOk, slice_get};
-ghost use Rattle.std.specs.List.{AllPass};
+ghost use Rattle.std.specs.Prelude.{◌≡◌, ◌<◌, length, map, Some, IfOk, slice_get};
 ghost use Rattle.ck_drafts.specs.Drafts.{plain_draft};
 ghost use Rattle.ck_kinds.specs.Callers as spec;
-ghost use Rattle.ck_kinds.specs.KindedDrafts.{drafted, point_fits};
+ghost use Rattle.ck_kinds.specs.KindedDrafts.{drafted};
 ghost use Rattle.ck_prog.specs.TypedBodies.{TypedFunction};
-ghost use Rattle.ck_tables.specs.Numbers.{numbers};
 ghost use Rattle.ck_tables.specs.Program.{functions};
 ghost use Rattle.ck_kinds.specs.TypedRows.{AreTypedCalls};
 
@@ -19,8 +17,9 @@ use std::alloc::Global;
 /// The drafts of points of a function, in the same order: each with its kind, and with its place, its site and its
 /// edges as they were.
 ///
-/// The rows of calls are those of a typed project, the function is one of the project, and names that points call are
-/// declarations of the project. The only error is want of memory; it is met too where there are 2^32 calls or more.
+/// The rows of calls are those of a typed project, and the function is one of the project. A point that calls a number
+/// that no declaration has calls no name. The only error is want of memory; it is met too where there are 2^32 calls or
+/// more.
 pub fn drafts_of(
     alloc: Global,
     program: &Program,
@@ -29,7 +28,6 @@ pub fn drafts_of(
 ) -> Result<Vec<Draft>, OutOfMemory>
     requires typed { AreTypedCalls program.now.linked program.now.rows }
     requires there { function.0 < length (functions program.now.linked) }
-    requires names { AllPass (point_fits (numbers program.now.linked)) points.items }
     ensures { (f : TypedFunction) → slice_get (functions program.now.linked) function.0 ≡ Some f →
         IfOk result (λ drafts. map plain_draft drafts.items
         ≡ map (drafted program.now.linked program.now.rows function.0 f) points.items) }
@@ -48,8 +46,7 @@ pub fn drafts_of(
 impl Caller<'_> {
     /// The drafts of points of the function.
     fn drafts(&self, alloc: Global, points: Vec<PassagePoint>) -> Result<Vec<Draft>, OutOfMemory>
-        requires caller { spec.IsCaller self.now }
-        requires names { AllPass (point_fits (numbers (spec.tables self.now))) points.items }
+        requires { spec.IsCaller self.now }
         ensures { (f : TypedFunction) → slice_get (functions (spec.tables self.now)) self.now.function.0 ≡ Some f →
             IfOk result (λ drafts. map plain_draft drafts.items ≡ map (spec.draft_of self.now f) points.items) }
     {
@@ -62,8 +59,7 @@ impl Caller<'_> {
 
     /// The draft of a point of the function.
     fn draft(&self, point: PassagePoint) -> Draft
-        requires caller { spec.IsCaller self.now }
-        requires names { point_fits (numbers (spec.tables self.now)) point ≡ true }
+        requires { spec.IsCaller self.now }
         ensures { (f : TypedFunction) → slice_get (functions (spec.tables self.now)) self.now.function.0 ≡ Some f →
             plain_draft result ≡ spec.draft_of self.now f point }
     {

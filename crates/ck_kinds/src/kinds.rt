@@ -1,15 +1,12 @@
 //! Kinds of points.
 ghost use Rattle.std.specs.Prelude.{◌≡◌, true, Some, IfSome, slice_get};
 ghost use Rattle.ck_kinds.specs.Callers as spec;
-ghost use Rattle.ck_kinds.specs.KindedDrafts.{happening_fits};
-ghost use Rattle.ck_passages.specs.Points.{plain_happening};
+ghost use Rattle.ck_passages.specs.Points.{plain_happening, declared_at};
 ghost use Rattle.ck_points.specs.Graphs as graphs;
 ghost use Rattle.ck_prog.specs.Acts as acts;
 ghost use Rattle.ck_prog.specs.TypedBodies.{TypedFunction};
-ghost use Rattle.ck_tables.specs.Numbers.{numbers, fits_if_any, entry_fits};
-ghost use Rattle.ck_tables.specs.Program.{functions, readings};
+ghost use Rattle.ck_tables.specs.Program.{functions};
 ghost use Rattle.ck_tables.specs.ProgramRows.{act_fits, outside_count};
-ghost use Rattle.ck_tables.specs.Readings.{plain_entry};
 ghost use Rattle.ck_kinds.specs.TypedRows.{AreTypedCalls, outside_ops, project};
 
 use crate::callers::Caller;
@@ -21,11 +18,10 @@ use ck_tables::{EntryId, Program};
 impl Caller<'_> {
     /// The kind of a point of the function, by its path and by what happens there.
     pub(crate) fn kind_of(&self, path: &[u32], happening: Happening) -> PointKind
-        requires caller { spec.IsCaller self.now }
-        requires fits { happening_fits (numbers (spec.tables self.now)) happening ≡ true }
+        requires { spec.IsCaller self.now }
         ensures { (f : TypedFunction) → slice_get (functions (spec.tables self.now)) self.now.function.0 ≡ Some f →
             result ≡ graphs.kind_of (spec.flow self.now) self.now.function.0 f path.now
-            (plain_happening (readings (spec.tables self.now)) happening) }
+            (plain_happening (spec.tables self.now) happening) }
     {
         match happening {
             Happening::Passes => PointKind::Plain,
@@ -38,11 +34,10 @@ impl Caller<'_> {
 
     /// The kind of a call, by its path and by the name that it calls, if any.
     fn kind_of_call(&self, path: &[u32], name: Option<EntryId>) -> PointKind
-        requires caller { spec.IsCaller self.now }
-        requires fits { fits_if_any (entry_fits (numbers (spec.tables self.now))) name ≡ true }
+        requires { spec.IsCaller self.now }
         ensures { (f : TypedFunction) → slice_get (functions (spec.tables self.now)) self.now.function.0 ≡ Some f →
             result ≡ graphs.kind_of_call (spec.flow self.now)
-            (acts.act_of (spec.flow self.now).project (plain_entry (readings (spec.tables self.now)) name))
+            (acts.act_of (spec.flow self.now).project (declared_at (spec.tables self.now) name))
             (graphs.number_of_call (spec.flow self.now) self.now.function.0 f path.now) }
     {
         match act_of(self.program, name) {
@@ -54,15 +49,30 @@ impl Caller<'_> {
 
 /// The act that a call by a name is, if it is one.
 fn act_of(program: &Program, name: Option<EntryId>) -> Option<ActName>
-    requires typed { AreTypedCalls program.now.linked program.now.rows }
-    requires fits { fits_if_any (entry_fits (numbers program.now.linked)) name ≡ true }
+    requires { AreTypedCalls program.now.linked program.now.rows }
     ensures act { result ≡ acts.act_of (project program.now.linked program.now.rows)
-        (plain_entry (readings program.now.linked) name) }
+        (declared_at program.now.linked name) }
     ensures fits { IfSome result (λ act. act_fits (outside_count program.now.rows) act ≡ true) }
 {
     match name {
-        Some(entry) => program.use_of(entry).act,
+        Some(entry) => act_of_entry(program, entry),
         None => None,
+    }
+}
+
+/// The act that a call by the name of a declaration is, if the project has the declaration and it is one.
+fn act_of_entry(program: &Program, entry: EntryId) -> Option<ActName>
+    requires { AreTypedCalls program.now.linked program.now.rows }
+    ensures act { result ≡ acts.act_of (project program.now.linked program.now.rows)
+        (declared_at program.now.linked (Some entry)) }
+    ensures fits { IfSome result (λ act. act_fits (outside_count program.now.rows) act ≡ true) }
+{
+    let declarations = program.linked().entries.as_slice();
+    let at = entry.0 as usize;
+    if at < declarations.len() {
+        program.use_of(entry).act
+    } else {
+        None
     }
 }
 

@@ -1,9 +1,9 @@
 -- A controlling expression and its test.
-use Rattle.std.proofs.Common.{◌≡◌, ℕ, List, [], ◌∷◌, ◌++◌, map, sym, ap, ◌∙◌}
+use Rattle.std.proofs.Common.{◌≡◌, ℕ, List, [], sym, ap, ◌∙◌}
 use Rattle.ck_base.specs.declared.spans.Span.{Span}
-use Rattle.ck_drafts.specs.Drafts.{PlainEdge, edge_drafted}
+use Rattle.ck_drafts.specs.Drafts.{PlainEdge}
 use Rattle.ck_passages.specs.Drawing.{put, test_edges}
-use Rattle.ck_passages.specs.Points.{PlainPoint, Drawn, added, before_drawn}
+use Rattle.ck_passages.specs.Points.{PlainPoint, Drawn, before_drawn}
 use Rattle.ck_passages.proofs.DrawnPassages.{added-append, test_edges-drafted}
 use Rattle.ck_points.specs.Evaluations.{evaluation}
 use Rattle.ck_points.specs.Passages.{passage, point, either_way}

@@ -2,6 +2,7 @@ mod Arrangements
 mod Choices
 mod Decisions
 pub mod DrawnPassages
+pub mod NamedEntries
 mod Nodes
 mod OperandLists
 mod Rows

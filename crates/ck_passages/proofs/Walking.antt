@@ -1,6 +1,7 @@
 -- A walk along a chain or a row of suffixes, from its last operator or suffix to its first operand.
 use Rattle.std.proofs.Common.{◌≡◌, ◌<◌, ◌≤◌, ℕ, ◌*◌, Bool, true, false, List, [], ◌∷◌}
 use Rattle.std.proofs.Common.{◌++◌, length, refl, ap, ◌∙◌, arith}
+use Rattle.std.specs.List.{list_all}
 use Rattle.std.specs.Prelude.{if◌then◌else◌, nat_lt, ◌&&◌}
 use Rattle.ck_passages.specs.Drawing.{draw}
 use Rattle.ck_passages.specs.Operands.{value, chain_value, row_value, link_value, step_value}
@@ -97,6 +98,14 @@ steps_below-last n [] s h = (refl, (both _ _ h).0)
 steps_below-last n (t ∷ rest) s h =
     let hs = both (step_below n t) (steps_below n (rest ++ (s ∷ []))) h in
     let later = steps_below-last n rest s hs.1 in
+    (grind (arith, hs.0, later.0), later.1)
+
+pub names_fit-last : (fits : Step → Bool) (rest : List Step) (s : Step) → list_all fits (rest ++ (s ∷ [])) ≡ true →
+    (list_all fits rest ≡ true) × (fits s ≡ true)
+names_fit-last fits [] s h = (refl, (both _ _ h).0)
+names_fit-last fits (t ∷ rest) s h =
+    let hs = both (fits t) (list_all fits (rest ++ (s ∷ []))) h in
+    let later = names_fit-last fits rest s hs.1 in
     (grind (arith, hs.0, later.0), later.1)
 
 -- how deep a suffix goes ----------------------------------------------------------------------------------------------

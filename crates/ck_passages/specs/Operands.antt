@@ -1,6 +1,7 @@
 -- The values of operands in a project's tables.
 use Rattle.std.specs.Prelude.{◌≡◌, ◌<◌, ◌+◌, ◌*◌, ℕ, suc, max, true, List, [], ◌∷◌}
 use Rattle.std.specs.Prelude.{◌++◌, map, length}
+use Rattle.std.specs.List.{list_all}
 use Rattle.ck_base.specs.declared.tokens.Token.{Token}
 use Rattle.ck_passages.specs.Drawing.{draw}
 use Rattle.ck_passages.specs.Points.{Drawn}
@@ -13,6 +14,7 @@ use Rattle.ck_prog.specs.Paths as part
 use Rattle.ck_prog.specs.Paths.{Path, below}
 use Rattle.ck_prog.specs.TypedTrees.{Typed, facts}
 use Rattle.ck_tables.specs.ExprTable.{tree_at, links_below, steps_below}
+use Rattle.ck_tables.specs.Numbers.{numbers, step_fits}
 use Rattle.ck_tables.specs.Program.{readings}
 use Rattle.ck_tables.specs.Readings.{plain_facts, plain_entry}
 use Rattle.ck_tables.specs.declared.exprs.ExprId.{ExprId}
@@ -89,13 +91,15 @@ module _ (l : Linked) where
   abbrev pub unsequenced_evaluation : Path → Token → List Operand → Evaluation
   unsequenced_evaluation here first os = unsequenced (record { path = here; first = first }) (map value_of os)
 
-  -- an operand names numbers of the table, and where it is part of a node, smaller ones than that
+  -- an operand names numbers of the table, and where it is part of a node, smaller ones than that; what its suffixes
+  -- name is the project's
   abbrev pub Fits : Operand → Type 0
   Fits (operand.Whole x above step) = x.0 < length l.exprs
   Fits (operand.Chain of first links path) =
       (of.0 < length l.exprs) × (first.0 < of.0) × (links_below of.0 links.now ≡ true)
   Fits (operand.Row of primary suffixes path) =
       (of.0 < length l.exprs) × (primary.0 < of.0) × (steps_below of.0 suffixes.now ≡ true)
+      × (list_all (step_fits (numbers l)) suffixes.now ≡ true)
 
   abbrev pub AllFit : List Operand → Type 0
   AllFit [] = Unit {0}

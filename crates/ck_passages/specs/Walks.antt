@@ -15,14 +15,13 @@ use Rattle.ck_points.specs.Places.{Place, leads}
 use Rattle.ck_points.specs.Statements.{decided}
 use Rattle.ck_prog.specs.Paths.{Path}
 use Rattle.ck_prog.specs.TypedTrees.{Typed}
-use Rattle.ck_tables.specs.Program.{readings}
 use Rattle.ck_tables.specs.declared.program.Linked.{Linked}
 
 abbrev pub tables : Walk → Linked
 tables w = w.program.now.linked
 
 abbrev pub made : Walk → Drawing → Drawn
-made w d = drawn (readings (tables w)) d
+made w d = drawn (tables w) d
 
 -- an evaluation was drawn
 abbrev pub Draws : Walk → Evaluation → Drawing → Drawing → Type 0

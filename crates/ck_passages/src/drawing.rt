@@ -3,9 +3,9 @@ ghost use Rattle.std.specs.Prelude.{◌≡◌, [], ◌∷◌, ◌++◌, List, ma
 ghost use Rattle.ck_drafts.specs.Drafts.{plain_place, plain_edge, plain_side};
 ghost use Rattle.ck_graph.specs.declared.points.Label.TheVariants.{Plain, Order};
 ghost use Rattle.ck_passages.specs.Drawing as spec;
-ghost use Rattle.ck_passages.specs.Points.{drawn, plain_happening};
+ghost use Rattle.ck_passages.specs.Points.{drawn, plain_happening, declared_at};
 ghost use Rattle.ck_points.specs.Places as places;
-ghost use Rattle.ck_tables.specs.Readings.{Readings, plain_entry};
+ghost use Rattle.ck_tables.specs.declared.program.Linked.{Linked as Tables};
 
 use ck_base::Span;
 use ck_drafts::{DraftEdge, Place, Side};
@@ -108,7 +108,7 @@ pub fn one_edge(alloc: Global, to: Place) -> Result<Vec<DraftEdge>, AllocError>
 #[tactic(auto, unfolding(crate::specs::Points::drawn))]
 pub(crate) fn no_copies(alloc: Global, drawing: &Drawing) -> Result<Copies, AllocError>
     ensures edges { IfOk result (λ copies. copies.edges.items ≡ []) }
-    ensures to { (w : Readings) → IfOk result (λ copies. plain_place copies.to ≡ (drawn w drawing.now).to) }
+    ensures to { (l : Tables) → IfOk result (λ copies. plain_place copies.to ≡ (drawn l drawing.now).to) }
 {
     Ok(Copies {
         to: copied(alloc, &drawing.to)?,
@@ -133,7 +133,7 @@ impl Drawing {
     /// The place that comes next.
     #[tactic(auto, unfolding(crate::specs::Points::drawn))]
     pub fn next(&self, alloc: Global) -> Result<Place, AllocError>
-        ensures { (w : Readings) → IfOk result (λ p. plain_place p ≡ (drawn w self.now).to) }
+        ensures { (l : Tables) → IfOk result (λ p. plain_place p ≡ (drawn l self.now).to) }
     {
         let to = copied(alloc, &self.to)?;
         Ok(to)
@@ -149,9 +149,9 @@ impl Drawing {
         site: Span,
         edges: Vec<DraftEdge>,
     ) -> Result<(), AllocError>
-        ensures { (w : Readings) → OnOk result (drawn w self.new
-            ≡ spec.put (plain_place at) (plain_happening w happening) site (map plain_edge edges.items)
-            (drawn w self.old).points) }
+        ensures { (l : Tables) → OnOk result (drawn l self.new
+            ≡ spec.put (plain_place at) (plain_happening l happening) site (map plain_edge edges.items)
+            (drawn l self.old).points) }
     {
         self.to = copied(alloc, &at)?;
         self.points.push(PassagePoint {
@@ -172,8 +172,8 @@ impl Drawing {
         happening: Happening,
         site: Span,
     ) -> Result<(), AllocError>
-        ensures { (w : Readings) → OnOk result (drawn w self.new
-            ≡ spec.put_passing (plain_place at) (plain_happening w happening) site (drawn w self.old)) }
+        ensures { (l : Tables) → OnOk result (drawn l self.new
+            ≡ spec.put_passing (plain_place at) (plain_happening l happening) site (drawn l self.old)) }
     {
         let to = copied(alloc, &self.to)?;
         let edges = one_edge(alloc, to)?;
@@ -190,8 +190,8 @@ impl Drawing {
         function: Option<EntryId>,
         site: Span,
     ) -> Result<(), AllocError>
-        ensures { (w : Readings) → OnOk result (drawn w self.new
-            ≡ spec.put_call path.now orders.now (plain_entry w function) site (drawn w self.old)) }
+        ensures { (l : Tables) → OnOk result (drawn l self.new
+            ≡ spec.put_call path.now orders.now (declared_at l function) site (drawn l self.old)) }
     {
         let after = place(alloc, path, orders, Side::After)?;
         self.put_passing(alloc, after, Happening::Passes, site)?;
@@ -207,8 +207,8 @@ impl Drawing {
         orders: &[u8],
         site: Span,
     ) -> Result<(), AllocError>
-        ensures { (w : Readings) → OnOk result (drawn w self.new
-            ≡ spec.put_meeting path.now orders.now site (drawn w self.old)) }
+        ensures { (l : Tables) → OnOk result (drawn l self.new
+            ≡ spec.put_meeting path.now orders.now site (drawn l self.old)) }
     {
         let after = place(alloc, path, orders, Side::After)?;
         self.put_passing(alloc, after, Happening::Passes, site)
@@ -223,11 +223,11 @@ impl Drawing {
         site: Span,
         edges: Vec<DraftEdge>,
     ) -> Result<(), AllocError>
-        ensures { (w : Readings) → OnOk result (drawn w self.new
+        ensures { (l : Tables) → OnOk result (drawn l self.new
             ≡ spec.put_split path.now orders.now site (record {
               edges = map plain_edge edges.items;
               points =
-                  (drawn w self.old).points;
+                  (drawn l self.old).points;
             })) }
     {
         let at = place(alloc, path, orders, Side::Split)?;
@@ -237,8 +237,8 @@ impl Drawing {
     /// Goes on to another place, and gives the one before.
     #[tactic(auto, unfolding(crate::specs::Points::drawn))]
     pub fn turn_to(&mut self, to: Place) -> Place
-        ensures drawn { (w : Readings) → drawn w self.new ≡ spec.going_to (plain_place to) (drawn w self.old) }
-        ensures before { (w : Readings) → plain_place result ≡ (drawn w self.old).to }
+        ensures drawn { (l : Tables) → drawn l self.new ≡ spec.going_to (plain_place to) (drawn l self.old) }
+        ensures before { (l : Tables) → plain_place result ≡ (drawn l self.old).to }
     {
         mem::replace(&mut self.to, to)
     }

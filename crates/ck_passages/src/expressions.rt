@@ -1,19 +1,25 @@
 //! The points of expressions, from the last to the first.
+ghost use Rattle.std.specs.List.{list_all};
 ghost use Rattle.std.specs.Prelude.{◌≡◌, ◌<◌, ◌∷◌, true, length, IfOk, OnOk};
+ghost use Rattle.ck_passages.specs.Drawing.{put_call};
 ghost use Rattle.ck_passages.specs.Operands as values;
 ghost use Rattle.ck_passages.specs.Walks as spec;
 ghost use Rattle.ck_points.specs.Evaluations as form;
 ghost use Rattle.ck_prog.specs.Paths as part;
 ghost use Rattle.ck_tables.specs.ExprTable.{links_below, steps_below, step_below};
+ghost use Rattle.ck_tables.specs.Numbers.{numbers, fits_if_any, entry_fits, step_fits};
+ghost use Rattle.ck_tables.specs.Program.{readings};
+ghost use Rattle.ck_tables.specs.Readings.{plain_entry};
 
 use crate::drawing::{Copies, Drawing, copied, no_copies, with_last};
 use crate::operands::{
     Operand, argument_operands, at, below, calling, placed, step_number, with_left,
 };
 use crate::walk::Walk;
-use ck_base::{OutOfMemory, Token};
+use ck_base::{OutOfMemory, Span, Token};
 use ck_prog::Operator;
-use ck_tables::{ExprId, ExprNode, Link, Step};
+use ck_tables::{EntryId, ExprId, ExprNode, Link, Step};
+use std::alloc::AllocError;
 use std::slice;
 
 impl<'a> Walk<'a> {
@@ -292,6 +298,7 @@ impl<'a> Walk<'a> {
         requires node { of.0 < length (spec.tables self.now).exprs }
         requires primary { primary.0 < of.0 }
         requires steps { steps_below of.0 steps.now ≡ true }
+        requires names { list_all (step_fits (numbers (spec.tables self.now))) steps.now ≡ true }
         ensures { OnOk result
             (spec.Draws self.now
             (values.row_value
@@ -316,6 +323,22 @@ impl<'a> Walk<'a> {
         self.expression(primary, inside.as_slice(), drawing)
     }
 
+    /// Draws a call with this path, under these orders, by a name of the project or through an expression.
+    fn draw_call(
+        &self,
+        here: &[u32],
+        function: Option<EntryId>,
+        site: Span,
+        drawing: &mut Drawing,
+    ) -> Result<(), AllocError>
+        requires { fits_if_any (entry_fits (numbers (spec.tables self.now))) function ≡ true }
+        ensures { OnOk result (spec.made self.now drawing.new
+            ≡ put_call here.now self.now.orders.now (plain_entry (readings (spec.tables self.now)) function) site
+            (spec.made self.now drawing.old)) }
+    {
+        drawing.put_call(self.alloc, here, self.orders, function, site)
+    }
+
     /// Draws a suffix with its operands. Answers whether what is before it is done with, too.
     #[cycle(expressions)]
     fn step<'b>(
@@ -327,6 +350,7 @@ impl<'a> Walk<'a> {
     ) -> Result<bool, OutOfMemory>
         requires left { values.Fits (spec.tables self.now) left.now }
         requires step { step_below (length (spec.tables self.now).exprs) step.now ≡ true }
+        requires names { step_fits (numbers (spec.tables self.now)) step.now ≡ true }
         ensures { IfOk result (spec.Leaves self.now
             (values.step_value (spec.tables self.now) here.now
             (values.value_of (spec.tables self.now) left.now) step.now).evaluation
@@ -351,7 +375,7 @@ impl<'a> Walk<'a> {
                 ..
             } => {
                 let first = facts.first;
-                drawing.put_call(self.alloc, here, self.orders, *function, first.span)?;
+                self.draw_call(here, *function, first.span, drawing)?;
                 let operands = argument_operands(self.alloc, here, arguments.as_slice())?;
                 if function.is_some() {
                     self.unsequenced(operands.as_slice(), here, first, drawing)?;

@@ -3,7 +3,6 @@ use Rattle.ck_drafts.specs.Drafts.{plain_edge, plain_place}
 use Rattle.ck_passages.specs.Drawing.{put}
 use Rattle.ck_points.specs.Functions.{exit}
 use Rattle.ck_points.specs.Places.{Ends}
-use Rattle.ck_tables.specs.Program.{readings}
 use Rattle.ck_bodies.specs.DrawnFunctions.{ending}
 use Rattle.ck_bodies.specs.Walks.{tables, made}
 use Rattle.ck_bodies.proofs.Apart.{alone-points}
@@ -16,7 +15,7 @@ returns c =
     let span = c.args.name.span in
     let es = map plain_edge c.new-edges.result.items in
     let ps = (made w c.apart-drawing.result).points in
-    c.in_ok-put.ensures (readings (tables w))
+    c.in_ok-put.ensures (tables w)
     ∙ ap (λ p. put p Ends span es ps) c.in_ok-exit.ensures
     ∙ ap (λ xs. put exit Ends span (map plain_edge xs) ps) c.new-edges.ensures.items
     ∙ ap (put exit Ends span [])

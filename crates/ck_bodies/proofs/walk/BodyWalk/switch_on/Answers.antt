@@ -7,7 +7,6 @@ use Rattle.ck_points.specs.Evaluations.{evaluation}
 use Rattle.ck_points.specs.Labels.{marks, switch_edges}
 use Rattle.ck_points.specs.Places.{Test, place, leads}
 use Rattle.ck_prog.specs.TypedTrees.{facts}
-use Rattle.ck_tables.specs.Program.{readings}
 use Rattle.ck_bodies.specs.Noting.{marked, notes, plain_notes}
 use Rattle.ck_bodies.specs.Walks.{tables, made, statement}
 use Rattle.ck_bodies.proofs.CaseEdges.{switched-drawn, switched_before-is}
@@ -39,5 +38,5 @@ returns c =
     (c.in_ok-edges.ensures
     ∙ ap (λ f. map edge_drafted (switch_edges f.sense.constancy own (leads past))) known
     ∙ ap (λ m. map edge_drafted (switch_edges (facts x).sense.constancy m (leads past))) found)
-    (c.in_ok-put.ensures (readings l))
+    (c.in_ok-put.ensures l)
     (c.in_ok-evaluate.ensures ∙ ap (λ p. draw [] (evaluation p x) (made w c.put.new.self)) here))

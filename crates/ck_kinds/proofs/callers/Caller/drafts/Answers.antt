@@ -2,24 +2,12 @@ use Rattle.std.proofs.Common.{◌≡◌, ◌∷◌, [], ◌++◌, map, length, v
 use Rattle.std.proofs.lemmas.Iterator.Adapters.{YieldsList-from_vec}
 use Rattle.std.proofs.lemmas.List.{map_push}
 use Rattle.ck_drafts.specs.Drafts.{plain_draft}
-use Rattle.ck_kinds.specs.Callers.{tables, draft_of}
-use Rattle.ck_kinds.specs.KindedDrafts.{point_fits}
-use Rattle.ck_kinds.proofs.Drafted.{turn, ended}
-use Rattle.ck_tables.specs.Numbers.{numbers}
+use Rattle.ck_kinds.specs.Callers.{draft_of}
+use Rattle.ck_kinds.proofs.Drafted.{ended}
 use Rattle.ck_kinds.proofs.callers.Caller.drafts.Goals as goal
 
 pub points-init : goal.points-init
 points-init c = λ f there. ap (map plain_draft) c.new-drafts.ensures.items
-
-pub draft-requires-clause-names : goal.draft-requires-clause-names
-draft-requires-clause-names c =
-    let points = c.args.points.items in
-    let long : vec_len c.args.points ≡ length points = grind arith in
-    let given = c.into_iter-point-iterator.ensures.into_iter_gives in
-    let road = YieldsList-from_vec points given.0 (given.1 ∙ long) in
-    turn (point_fits (numbers (tables c.args.self.now))) c.requires.names road c.points.yielded
-    c.points.point-iterator c.points.yielded_by c.next.result c.next.new.self c.in-Some.point c.in-Some.is
-    c.next.ensures.steps
 
 pub points-preserved : goal.points-preserved
 points-preserved c = λ f there.

@@ -1,6 +1,8 @@
 use Rattle.std.proofs.Common.{rules, ◌≡◌, ◌<◌, ◌≤◌, ◌+◌, ◌-◌, [], ◌∷◌, ◌++◌, true}
 use Rattle.std.proofs.Common.{length, map, take, ap, subst, sym, ◌∙◌}
 use Rattle.std.proofs.Common.{arith, OnOk, if◌then◌else◌}
+use Rattle.std.proofs.lemmas.Bool.{and_parts}
+use Rattle.std.specs.List.{list_all}
 use Rattle.std.specs.Prelude.{max}
 use Rattle.ck_drafts.specs.Drafts.{plain_place, plain_edge}
 use Rattle.ck_passages.specs.Drawing.{draw, going_to, put_meeting, put_test}
@@ -17,17 +19,28 @@ use Rattle.ck_passages.proofs.OperandLists.{draw_all-map_last, length-map, less_
 use Rattle.ck_passages.proofs.Rows.{after_links-value, after_steps-value}
 use Rattle.ck_passages.proofs.Splits.{copied, copy-of, split-two, split-three}
 use Rattle.ck_passages.proofs.Walking.{chain-goes_on, chain-ends, row-goes_on, row-ends, links_below-last}
-use Rattle.ck_passages.proofs.Walking.{steps_below-last}
+use Rattle.ck_passages.proofs.Walking.{steps_below-last, names_fit-last}
 use Rattle.ck_passages.proofs.Walking.{step_depth-below, step_below-more}
 use Rattle.ck_points.specs.Evaluations.{Node, with_calls, arranged, evaluation}
 use Rattle.ck_prog.specs.Paths as part
 use Rattle.ck_prog.specs.Paths.{below}
 use Rattle.ck_tables.specs.ExprTable.{links_below, steps_below, step_below}
-use Rattle.ck_tables.specs.Program.{readings}
+use Rattle.ck_tables.specs.Numbers.{numbers, step_fits, expression_fits, expression_node_fits}
 use Rattle.ck_passages.proofs.walk.Walk.+expressions.Goals as goal
 use Rattle.ck_passages.proofs.walk.Walk.+expressions.Goals.{unsequenced-in_default-via-then-as_slice-lt2}
 
 -- nodes --------------------------------------------------------------------------------------------------------------
+
+pub expression-row-requires : goal.expression-row-requires
+unfolding expression_node_fits
+expression-row-requires t c =
+    let n = numbers (tables c.args.self.now) in
+    let own = subst (λ x. expression_node_fits n x ≡ true) c.in-Postfix.is c.expression-node.ensures.fits in
+    let ss = c.in-Postfix.steps.items in
+    let fit = and_parts (expression_fits n c.in-Postfix.primary) (list_all (step_fits n) ss) own in
+    let names : list_all (step_fits n) c.as_slice-suffixes.result.now ≡ true =
+    subst (λ xs. list_all (step_fits n) xs ≡ true) (sym c.as_slice-suffixes.ensures.value) fit.1 in
+    search rules
 
 pub expression-returns-in-Postfix : goal.expression-returns-in-Postfix
 expression-returns-in-Postfix t c =
@@ -137,12 +150,21 @@ row-step-requires t c =
     let primary = c.requires.primary in
     let known : step_below (length (tables c.args.self.now).exprs) s ≡ true =
     step_below-more of _ (omega arith) s b.1 in
+    let fits = step_fits (numbers (tables c.args.self.now)) in
+    let n = names_fit-last fits rest s (subst (λ xs. list_all fits xs ≡ true) e c.steps.invariant.names) in
+    let names_before : list_all fits rest ≡ true = n.0 in
+    let names : fits s ≡ true = n.1 in
     let deep = step_depth-below of s b.1 in
     let shorter : length rest + 1 ≤ length c.args.steps.now =
     let n = c.in-Some.ensures.cases.1 in let h = c.steps.invariant.shorter in omega arith in
     let smaller : max (row_depth of (length rest)) (step_depth s) + 9 < row_depth of (length c.args.steps.now) =
     omega arith in
     search rules
+
+pub step-draw_call-requires : goal.step-draw_call-requires
+step-draw_call-requires t c =
+    let n = numbers (tables c.args.self.now) in
+    (and_parts _ _ (subst (λ s. step_fits n s ≡ true) c.in-Call.is c.requires.names)).0
 
 pub row-steps-preserved : goal.row-steps-preserved
 row-steps-preserved t c =
@@ -166,8 +188,10 @@ row-steps-preserved t c =
     subst (λ p. draw w.orders.now (step_value l p (row_value l π first rest) s).evaluation d
     ≡ (if done then e else draw w.orders.now
     (row_value l π first rest).evaluation e)) here c.in_ok-step.ensures in
+    let fits = step_fits (numbers l) in
     record {
       below = b.0;
+      names = (names_fit-last fits rest s (subst (λ xs. list_all fits xs ≡ true) same c.steps.invariant.names)).0;
       shorter = omega arith;
       is = row-goes_on l w.orders.now π first _ d e done ss rest s same c.steps.invariant.is drawn c.if-branch.false;
     }
@@ -198,35 +222,32 @@ pub second-returns-then-holds : goal.second-returns-then-holds
 second-returns-then-holds t c =
     let w = c.args.self.now in
     let l = tables w in
-    let r = readings l in
     let v = value_of l c.args.left.now in
     second-where_true (λ x. OnOk c.test.result (made w c.test.new.drawing ≡ x))
     (λ p q ps. put_test v.path w.orders.now v.facts.first.span v.facts.sense.constancy p q ps)
     (draw w.orders.now (evaluation_of l c.args.right.now)) c.args.holds c.if-holds.true
     (put_meeting c.args.here.now w.orders.now c.args.first.span (made w c.args.drawing.now))
     (made w c.put_meeting.new.self) (made w c.operand.new.drawing) (plain_place c.in_ok-entered.entered)
-    (plain_place c.in_ok-meet.meet) (c.in_ok-put_meeting.ensures r) c.in_ok-operand.ensures
-    (c.in_ok-entered.ensures r) (c.in_ok-meet.ensures r) c.test.ensures
+    (plain_place c.in_ok-meet.meet) (c.in_ok-put_meeting.ensures l) c.in_ok-operand.ensures
+    (c.in_ok-entered.ensures l) (c.in_ok-meet.ensures l) c.test.ensures
 
 pub second-returns-else-holds : goal.second-returns-else-holds
 second-returns-else-holds t c =
     let w = c.args.self.now in
     let l = tables w in
-    let r = readings l in
     let v = value_of l c.args.left.now in
     second-where_false (λ x. OnOk c.test-else-holds.result (made w c.test-else-holds.new.drawing ≡ x))
     (λ p q ps. put_test v.path w.orders.now v.facts.first.span v.facts.sense.constancy p q ps)
     (draw w.orders.now (evaluation_of l c.args.right.now)) c.args.holds c.if-holds.false
     (put_meeting c.args.here.now w.orders.now c.args.first.span (made w c.args.drawing.now))
     (made w c.put_meeting.new.self) (made w c.operand.new.drawing) (plain_place c.in_ok-entered.entered)
-    (plain_place c.in_ok-meet.meet) (c.in_ok-put_meeting.ensures r) c.in_ok-operand.ensures
-    (c.in_ok-entered.ensures r) (c.in_ok-meet.ensures r) c.test-else-holds.ensures
+    (plain_place c.in_ok-meet.meet) (c.in_ok-put_meeting.ensures l) c.in_ok-operand.ensures
+    (c.in_ok-entered.ensures l) (c.in_ok-meet.ensures l) c.test-else-holds.ensures
 
 pub conditional-returns : goal.conditional-returns
 conditional-returns t c =
     let w = c.args.self.now in
     let l = tables w in
-    let r = readings l in
     let π = c.args.path.now in
     let os = w.orders.now in
     let v = value l (below π part.Condition) c.args.test in
@@ -239,16 +260,16 @@ conditional-returns t c =
     (put_meeting π os c.args.first.span (made w c.args.drawing.now))
     (made w c.put_meeting.new.self) (made w c.expression.new.drawing) (made w c.turn_to-fails.new.self)
     (made w c.expression-2.new.drawing) (made w c.test.new.drawing) (plain_place c.in_ok-meet.meet)
-    (plain_place c.in_ok-holds.holds) (plain_place c.turn_to-fails.result) (c.in_ok-put_meeting.ensures r)
-    (c.in_ok-meet.ensures r)
+    (plain_place c.in_ok-holds.holds) (plain_place c.turn_to-fails.result) (c.in_ok-put_meeting.ensures l)
+    (c.in_ok-meet.ensures l)
     (c.in_ok-expression.ensures
     ∙ ap (λ p. draw os (evaluation p (tree l c.args.third.0)) (made w c.put_meeting.new.self))
     (c.as_slice.ensures.value ∙ c.in_ok-third_path.ensures))
-    (c.turn_to-fails.ensures.before r) (c.turn_to-fails.ensures.drawn r)
+    (c.turn_to-fails.ensures.before l) (c.turn_to-fails.ensures.drawn l)
     (c.in_ok-expression-2.ensures
     ∙ ap (λ p. draw os (evaluation p (tree l c.args.second.0)) (made w c.turn_to-fails.new.self))
     (c.as_slice-2.ensures.value ∙ c.in_ok-second_path.ensures))
-    (c.in_ok-holds.ensures r) c.in_ok-test.ensures c.operand.ensures
+    (c.in_ok-holds.ensures l) c.in_ok-test.ensures c.operand.ensures
 
 -- operands whose order is open ---------------------------------------------------------------------------------------
 
@@ -256,7 +277,6 @@ pub copy-returns : goal.copy-returns
 copy-returns t c =
     let w = c.args.self.now in
     let l = tables w in
-    let r = readings l in
     let k = c.args.number in
     let a = arranged_evaluation l c.args.operands.now c.args.order.now in
     let old = made w c.args.drawing.now in
@@ -264,12 +284,12 @@ copy-returns t c =
     c.in_ok-arranged.ensures
     ∙ ap (λ os. draw os a (made w c.turn_to.new.self)) (c.as_slice.ensures.value ∙ c.in_ok-orders.ensures)
     ∙ ap (draw (w.orders.now ++ (k ∷ [])) a)
-    (c.turn_to.ensures.drawn r ∙ ap (λ p. going_to p old) c.in_ok-next.ensures) in
+    (c.turn_to.ensures.drawn l ∙ ap (λ p. going_to p old) c.in_ok-next.ensures) in
     record {
       to = ap plain_place c.in_ok-put_first.ensures.to;
       is =
           copy-made k _ _ old.points (made w c.arranged.new.drawing) _ (plain_place c.in_ok-to.to)
-          c.in_ok-put_first.ensures.edges (c.in_ok-to.ensures r) drawn;
+          c.in_ok-put_first.ensures.edges (c.in_ok-to.ensures l) drawn;
     }
 
 pub unsequenced-returns : goal.unsequenced-returns
@@ -302,7 +322,6 @@ pub unsequenced-returns-in-len2 : goal.unsequenced-returns-in-len2
 unsequenced-returns-in-len2 t c =
     let w = c.args.self.now in
     let l = tables w in
-    let r = readings l in
     let os = w.orders.now in
     let d = made w c.args.drawing.now in
     let vs = map (value_of l) c.args.operands.now in
@@ -317,7 +336,7 @@ unsequenced-returns-in-len2 t c =
     sym (ap (map (evaluation_of l)) c.as_slice.ensures.value ∙ c.in_ok-in_calls.ensures.calls)
     ∙ ap (map (evaluation_of l)) items in
     let copies = c.in_ok-copies-in-len2.copies in
-    let to0 = c.in_ok-copies-in-len2.ensures.to r in
+    let to0 = c.in_ok-copies-in-len2.ensures.to l in
     let none =
     ap (λ es. record { edges = map plain_edge es; points = d.points }) c.in_ok-copies-in-len2.ensures.edges in
     let s2 = c.in_ok-copy-in-len2.ensures in
@@ -325,7 +344,7 @@ unsequenced-returns-in-len2 t c =
     let c0 = copies_made w copies c.args.drawing.now in
     let c2 = copies_made w c.copy.new.copies c.copy.new.drawing in
     let c1 = copies_made w c.copy-in-len2.new.copies c.copy-in-len2.new.drawing in
-    c.in_ok-put_split-in-len2.ensures r
+    c.in_ok-put_split-in-len2.ensures l
     ∙ split-two os n vs d ea eb c1 c2 calls
     (copy-of os n vs d 2 (eb ∷ ea ∷ []) c0 c2 _ to0 s2.is ∙ ap (copied os n vs d 2 (eb ∷ ea ∷ [])) none)
     (copy-of os n vs d 1 (ea ∷ eb ∷ []) c2 c1 _ (s2.to ∙ to0) s1.is)
@@ -334,7 +353,6 @@ pub unsequenced-returns-in-len3 : goal.unsequenced-returns-in-len3
 unsequenced-returns-in-len3 t c =
     let w = c.args.self.now in
     let l = tables w in
-    let r = readings l in
     let os = w.orders.now in
     let d = made w c.args.drawing.now in
     let vs = map (value_of l) c.args.operands.now in
@@ -351,7 +369,7 @@ unsequenced-returns-in-len3 t c =
     sym (ap (map (evaluation_of l)) c.as_slice.ensures.value ∙ c.in_ok-in_calls.ensures.calls)
     ∙ ap (map (evaluation_of l)) items in
     let copies = c.in_ok-copies-in-len3.copies in
-    let to0 = c.in_ok-copies-in-len3.ensures.to r in
+    let to0 = c.in_ok-copies-in-len3.ensures.to l in
     let none =
     ap (λ es. record { edges = map plain_edge es; points = d.points }) c.in_ok-copies-in-len3.ensures.edges in
     let s6 = c.in_ok-copy-in-len3.ensures in
@@ -372,7 +390,7 @@ unsequenced-returns-in-len3 t c =
     let to4 = s4.to ∙ to5 in
     let to3 = s3.to ∙ to4 in
     let to2 = s2.to ∙ to3 in
-    c.in_ok-put_split-in-len3.ensures r
+    c.in_ok-put_split-in-len3.ensures l
     ∙ split-three os n vs d ea eb ec c1 c2 c3 c4 c5 c6 calls
     (copy-of os n vs d 6 (ec ∷ eb ∷ ea ∷ []) c0 c6 _ to0 s6.is
     ∙ ap (copied os n vs d 6 (ec ∷ eb ∷ ea ∷ [])) none)

@@ -1,10 +1,12 @@
 use Rattle.std.proofs.Common.{◌≡◌, ◌≤◌, ◌+◌, true, length, map, take}
+use Rattle.std.specs.List.{list_all}
 use Rattle.std.specs.Prelude.{max}
 use Rattle.ck_passages.specs.Drawing.{draw}
 use Rattle.ck_passages.specs.Operands.{chain_value, row_value, evaluation_of, draw_all}
 use Rattle.ck_passages.specs.Operands.{node_depth, row_depth, depth, most_depth, step_depth}
 use Rattle.ck_passages.specs.Walks.{tables, made}
 use Rattle.ck_tables.specs.ExprTable.{links_below, steps_below}
+use Rattle.ck_tables.specs.Numbers.{numbers, step_fits}
 use Rattle.ck_passages.proofs.walk.Walk.+expressions.Given as goal
 
 abbrev pub decreases-expression : goal.decreases-expression
@@ -68,6 +70,7 @@ abbrev pub invariant-row-steps : goal.invariant-row-steps
 invariant-row-steps l =
     record {
       below : steps_below l.of.0 l.steps ≡ true;
+      names : list_all (step_fits (numbers (tables l.self))) l.steps ≡ true;
       shorter : length l.steps ≤ length l.initial.steps;
       is :
           draw l.self.orders.now (row_value (tables l.self) l.path l.primary l.initial.steps).evaluation

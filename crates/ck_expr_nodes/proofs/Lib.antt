@@ -1,0 +1,4 @@
+-- What a node stands for, where its parts are known
+pub mod NodeLemmas
+-- What stays when tables grow
+pub mod Growth
