@@ -98,7 +98,8 @@ module _ (w : Readings) (ns : List ExprNode) (role : Role) (v : Value) where
           function_is = ap (plain_entry w) function ∙ is.function_is;
         }
 
-    unary-holds : (op : Prefix) (b c : Bool) (p : Place) (first : Token) (of_star : Bool) (f : typed.Facts) → b ≡ f.holds_call
+    unary-holds : (op : Prefix) (b c : Bool) (p : Place) (first : Token) (of_star : Bool) (f : typed.Facts)
+        → b ≡ f.holds_call
         → (is_evaluated op && b) ≡ (unary_facts p role first of_star op f).holds_call
     unary-holds prefixes.SizeOf b c p first of_star f e = refl
     unary-holds (prefixes.Unary op) b c p first of_star f e = e ∙ or-false f.holds_call
@@ -147,7 +148,8 @@ module _ (w : Readings) (ns : List ExprNode) (role : Role) (v : Value) where
         sense
         ∙ (ap (λ (f : typed.Facts). choice_sense f.sense (plain_sense w (sense_in b.facts))
         (plain_sense w (sense_in c.facts))) is.facts_are
-        ∙ (ap (λ (f : typed.Facts). choice_sense (facts x).sense f.sense (plain_sense w (sense_in c.facts))) also.facts_are
+        ∙ (ap (λ (f : typed.Facts). choice_sense (facts x).sense f.sense (plain_sense w (sense_in c.facts)))
+        also.facts_are
         ∙ ap (λ (f : typed.Facts). choice_sense (facts x).sense (facts y).sense f.sense) third.facts_are)) in
         let told : plain_facts w v.facts ≡ typed.facts (conditional_of role x y z) =
         known w role a.facts.first v.facts s (choice_sense (facts x).sense (facts y).sense (facts z).sense)

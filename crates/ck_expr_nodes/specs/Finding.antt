@@ -9,8 +9,8 @@ use Rattle.ck_expr_nodes.specs.SenseViews.{plain_sense}
 use Rattle.ck_expr_nodes.specs.declared.senses.Found.{Found}
 use Rattle.ck_expr_nodes.specs.declared.senses.Sense.{Sense}
 
--- Numbers stay: who reads the later numbers reads the earlier ones, a sense over earlier numbers is one over later ones,
--- and an earlier place is known by its number.
+-- Numbers stay: who reads the later numbers reads the earlier ones, a sense over earlier numbers is one over later
+-- ones, and an earlier place is known by its number.
 pub record Stays {State : Type 0} (reads : State → Readings → Type 0) (fits : State → Sense → Type 0)
     (marks : State → ℕ → Place → Type 0) (old new : State) : Type 0 where
   pub reading : (w : Readings) → reads new w → reads old w

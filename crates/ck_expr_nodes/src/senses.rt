@@ -127,7 +127,8 @@ pub trait Senses {
         ensures sense { IfOk result (λ s. (w : Readings) → reads self.new w
             → plain_sense w s ≡ constant_sense (place self.old) token) };
 
-    /// What an operator makes, at a place that is known by its number, of its operand, which may be a `*` and its operand (6.5.3).
+    /// What an operator makes, at a place that is known by its number, of its operand, which may be a `*` and its
+    /// operand (6.5.3).
     fn unary(
         &mut self,
         at: u32,
