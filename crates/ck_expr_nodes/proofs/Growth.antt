@@ -1,11 +1,12 @@
 -- Values and places stay what they are when the tables grow.
-use Rattle.std.proofs.Common.{◌<◌, ℕ, List, length, arith, ◌∙◌}
+use Rattle.std.proofs.Common.{◌≡◌, ◌<◌, ℕ, List, length, arith, subst, sym, ◌∙◌}
 use Rattle.ck_prog.specs.Declarations.{Place}
 use Rattle.ck_prog.specs.TypedTrees.{Typed}
 use Rattle.ck_tables.specs.ExprTable.{Keeps}
 use Rattle.ck_tables.specs.Readings.{Readings}
 use Rattle.ck_tables.specs.declared.exprs.ExprNode.{ExprNode}
-use Rattle.ck_tables.proofs.ExprLemmas.{keeps_twice}
+use Rattle.ck_tables.proofs.ExprLemmas.{keeps_none, keeps_twice}
+use Rattle.ck_expr_nodes.specs.Finding.{Stays}
 use Rattle.ck_expr_nodes.specs.SenseViews.{sense_in}
 use Rattle.ck_expr_nodes.specs.Walked.{IsKnown, IsValue, Grows}
 use Rattle.ck_expr_nodes.specs.declared.senses.Sense.{Sense}
@@ -28,6 +29,12 @@ module _ {State : Type 0} (reads : State → Readings → Type 0) (fits : State 
         stays = record { reading = λ w h. h; fitting = λ a h. h; marking = λ n p h. h };
         kept = kept;
       }
+
+  -- the names and types grow, and the table of expressions is the same
+  pub grows_beside : (s t : State) (ns ms : List ExprNode) → Stays reads fits marks s t → ms ≡ ns
+      → Grows reads fits marks s t ns ms
+  grows_beside s t ns ms stays same =
+      record { stays = stays; kept = subst (Keeps ns) (sym same) (keeps_none ns) }
 
   pub grows_twice : (r s t : State) (ns ms ls : List ExprNode)
       → Grows reads fits marks r s ns ms → Grows reads fits marks s t ms ls → Grows reads fits marks r t ns ls

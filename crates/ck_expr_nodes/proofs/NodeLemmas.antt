@@ -1,6 +1,6 @@
 -- What a node stands for, where its parts are these: one lemma for each production.
 use Rattle.std.proofs.Common.{◌≡◌, ◌<◌, ℕ, Bool, true, false, List, [], ◌∷◌, length, refl, ap, ◌∙◌}
-use Rattle.std.specs.Prelude.{◌&&◌, ◌||◌, None}
+use Rattle.std.specs.Prelude.{◌&&◌, ◌||◌, Option, None}
 use Rattle.ck_base.specs.declared.tokens.Token.{Token}
 use Rattle.ck_grammar.specs.Trees as plain
 use Rattle.ck_prog.specs.AssignmentSenses.{assignment_sense, choice_sense}
@@ -8,20 +8,26 @@ use Rattle.ck_prog.specs.Declarations.{Place}
 use Rattle.ck_prog.specs.Senses as senses
 use Rattle.ck_prog.specs.TypedExpressions.{typed_expression, facts_of, unary_facts}
 use Rattle.ck_prog.specs.TypedTrees as typed
-use Rattle.ck_prog.specs.TypedTrees.{Typed, facts}
-use Rattle.ck_prog.specs.Typing.{name_sense, constant_sense}
-use Rattle.ck_prog.specs.UnarySenses.{prefix_sense}
+use Rattle.ck_prog.specs.TypedTrees.{Typed, Links, Steps, TypeParts, facts, last_link, last_step}
+use Rattle.ck_prog.specs.Typing.{name_sense, constant_sense, strings_sense}
+use Rattle.ck_prog.specs.UnarySenses.{prefix_sense, size_of, cast_sense}
 use Rattle.ck_prog.specs.declared.operators.Assigning.{Assigning}
 use Rattle.ck_prog.specs.declared.operators.Prefix.{Prefix}
 use Rattle.ck_prog.specs.declared.operators.Prefix.TheVariants as prefixes
 use Rattle.ck_prog.specs.declared.operators.Role.{Role}
-use Rattle.ck_tables.specs.ExprTable.{IsNode, tree_at}
+use Rattle.ck_tables.specs.ExprTable.{IsNode, Keeps, tree_at, links_below, links_of, steps_below, steps_of, parts_below}
+use Rattle.ck_tables.specs.ExprTable.{parts_of}
 use Rattle.ck_tables.specs.Readings.{Readings, plain_entry, plain_facts}
 use Rattle.ck_tables.specs.declared.exprs.ExprNode.{ExprNode}
 use Rattle.ck_tables.specs.declared.exprs.ExprNode.TheVariants as nodes
+use Rattle.ck_tables.specs.declared.exprs.Link.{Link}
+use Rattle.ck_tables.specs.declared.exprs.Part.{Part}
+use Rattle.ck_tables.specs.declared.exprs.Step.{Step}
 use Rattle.ck_tables.specs.declared.facts.Facts.{Facts}
+use Rattle.ck_types.specs.Types.{CType}
 use Rattle.ck_expr_nodes.specs.Finding.{IsFound}
-use Rattle.ck_expr_nodes.specs.Made.{is_evaluated, paren_of, unary_of, conditional_of, assignment_of}
+use Rattle.ck_expr_nodes.specs.Made.{is_evaluated, paren_of, unary_of, sizeof_of, cast_of, conditional_of}
+use Rattle.ck_expr_nodes.specs.Made.{assignment_of}
 use Rattle.ck_expr_nodes.specs.SenseViews.{known_facts, plain_sense, sense_in}
 use Rattle.ck_expr_nodes.specs.Walked.{IsValue}
 use Rattle.ck_expr_nodes.specs.declared.nodes.Value.{Value}
@@ -72,6 +78,19 @@ module _ (w : Readings) (ns : List ExprNode) (role : Role) (v : Value) where
       let told = known w role token v.facts s (constant_sense p token) false false made sense refl in
       record {
         tree_is = node.tree w ∙ ap typed.Constant told;
+        facts_are = told;
+        function_is = ap (plain_entry w) function;
+      }
+
+  pub strings_value : (p : Place) (first : Token) (others : List Token) (s : Sense)
+      → plain_sense w s ≡ strings_sense p first others
+      → plain_facts w v.facts ≡ known_facts role first (plain_sense w s) false
+      → tree_at w ns v.id.0 ≡ typed.Strings (plain_facts w v.facts) others → v.function ≡ None
+      → IsValue w ns (typed_expression p role (plain.Strings first others)) v
+  strings_value p first others s sense made tree function =
+      let told = known w role first v.facts s (strings_sense p first others) false false made sense refl in
+      record {
+        tree_is = tree ∙ ap (λ f. typed.Strings f others) told;
         facts_are = told;
         function_is = ap (plain_entry w) function;
       }
@@ -205,4 +224,92 @@ module _ (w : Readings) (ns : List ExprNode) (role : Role) (v : Value) where
           function_is = ap (plain_entry w) function;
         }
 
-pub ruleset standing = (name_value, constant_value, paren_value, unary_value, conditional_value, assignment_value)
+-- rows and the parts of types
+module _ (w : Readings) (ms ns : List ExprNode) (kept : Keeps ms ns) (v : Value) where
+  pub chain_value : (x : Typed) (ls : Links) (row : List Link) (first : Value) → IsValue w ms x first
+      → first.id.0 < length ms → links_below (length ms) row ≡ true → links_of w (tree_at w ms) row ≡ ls
+      → plain_facts w v.facts ≡ last_link (facts x) ls
+      → tree_at w ns v.id.0 ≡ typed.Chain (tree_at w ns first.id.0) (links_of w (tree_at w ns) row)
+      → v.function ≡ None → IsValue w ns (typed.Chain x ls) v
+  chain_value x ls row first is below rows_below row_is told tree function =
+      record {
+        tree_is =
+            tree
+            ∙ (ap (λ t. typed.Chain t (links_of w (tree_at w ns) row)) (kept.same w first.id.0 below ∙ is.tree_is)
+            ∙ ap (typed.Chain x) (kept.same_links w row rows_below ∙ row_is));
+        facts_are = told;
+        function_is = ap (plain_entry w) function;
+      }
+
+  pub postfix_value : (x : Typed) (ss : Steps) (row : List Step) (primary : Value) → IsValue w ms x primary
+      → primary.id.0 < length ms → steps_below (length ms) row ≡ true → steps_of w (tree_at w ms) row ≡ ss
+      → plain_facts w v.facts ≡ last_step (facts x) ss
+      → tree_at w ns v.id.0 ≡ typed.Postfix (tree_at w ns primary.id.0) (steps_of w (tree_at w ns) row)
+      → v.function ≡ None → IsValue w ns (typed.Postfix x ss) v
+  postfix_value x ss row primary is below rows_below row_is told tree function =
+      record {
+        tree_is =
+            tree
+            ∙ (ap (λ t. typed.Postfix t (steps_of w (tree_at w ns) row)) (kept.same w primary.id.0 below ∙ is.tree_is)
+            ∙ ap (typed.Postfix x) (kept.same_steps w row rows_below ∙ row_is));
+        facts_are = told;
+        function_is = ap (plain_entry w) function;
+      }
+
+  pub sizeof_value : (p : Place) (role : Role) (keyword : Token) (t : Option CType) (parts : TypeParts)
+      (written : List Part) (s : Sense) → parts_below (length ms) written ≡ true
+      → parts_of w (tree_at w ms) written ≡ parts → plain_sense w s ≡ size_of p t
+      → plain_facts w v.facts ≡ known_facts role keyword (plain_sense w s) false
+      → tree_at w ns v.id.0 ≡ typed.SizeofType (plain_facts w v.facts) (parts_of w (tree_at w ns) written)
+      → v.function ≡ None → IsValue w ns (sizeof_of p role keyword t parts) v
+  sizeof_value p role keyword t parts written s rows_below row_is sense made tree function =
+      let told = known w role keyword v.facts s (size_of p t) false false made sense refl in
+      record {
+        tree_is =
+            tree
+            ∙ (ap (λ f. typed.SizeofType f (parts_of w (tree_at w ns) written)) told
+            ∙ ap (typed.SizeofType (facts_of role keyword (size_of p t) []))
+            (kept.same_parts w written rows_below ∙ row_is));
+        facts_are = told;
+        function_is = ap (plain_entry w) function;
+      }
+
+  pub cast_value : (role : Role) (opening : Token) (t : Option CType) (parts : TypeParts) (x : Typed)
+      (written : List Part) (s : Sense) (operand : Value) → IsValue w ms x operand → operand.id.0 < length ms
+      → parts_below (length ms) written ≡ true → parts_of w (tree_at w ms) written ≡ parts
+      → plain_sense w s ≡ cast_sense t (plain_sense w (sense_in operand.facts))
+      → plain_facts w v.facts ≡ known_facts role opening (plain_sense w s) operand.facts.holds_call
+      → tree_at w ns v.id.0
+      ≡ typed.Cast (plain_facts w v.facts) (parts_of w (tree_at w ns) written) (tree_at w ns operand.id.0)
+      → v.function ≡ None → IsValue w ns (cast_of role opening t parts x) v
+  cast_value role opening t parts x written s operand is below rows_below row_is sense made tree function =
+      let told : plain_facts w v.facts ≡ facts (cast_of role opening t parts x) =
+      known w role opening v.facts s (cast_sense t (facts x).sense) operand.facts.holds_call
+      ((facts x).holds_call || false) made
+      (sense ∙ ap (λ (f : typed.Facts). cast_sense t f.sense) is.facts_are)
+      (ap (λ (f : typed.Facts). f.holds_call) is.facts_are ∙ or-false (facts x).holds_call) in
+      record {
+        tree_is =
+            tree
+            ∙ (ap (λ f. typed.Cast f (parts_of w (tree_at w ns) written) (tree_at w ns operand.id.0)) told
+            ∙ (ap (λ ps. typed.Cast (facts (cast_of role opening t parts x)) ps (tree_at w ns operand.id.0))
+            (kept.same_parts w written rows_below ∙ row_is)
+            ∙ ap (typed.Cast (facts (cast_of role opening t parts x)) parts)
+            (kept.same w operand.id.0 below ∙ is.tree_is)));
+        facts_are = told;
+        function_is = ap (plain_entry w) function;
+      }
+
+pub ruleset standing = (
+  name_value,
+  constant_value,
+  strings_value,
+  paren_value,
+  unary_value,
+  chain_value,
+  postfix_value,
+  sizeof_value,
+  cast_value,
+  conditional_value,
+  assignment_value,
+)

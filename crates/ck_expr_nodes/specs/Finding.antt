@@ -1,11 +1,14 @@
 -- How the names and types of a project grow while its expressions are read, and what a name is found to be.
-use Rattle.std.specs.Prelude.{◌≡◌, ℕ}
+use Rattle.std.specs.Prelude.{◌≡◌, ℕ, Bool}
 use Rattle.ck_base.specs.declared.tokens.Token.{Token}
 use Rattle.ck_prog.specs.Declarations.{Place, text, meant}
+use Rattle.ck_prog.specs.PostfixSenses.{access, member}
+use Rattle.ck_prog.specs.Senses as senses
 use Rattle.ck_prog.specs.TypedExpressions.{function_entry}
 use Rattle.ck_prog.specs.Typing.{name_sense}
-use Rattle.ck_tables.specs.Readings.{Readings, plain_entry}
+use Rattle.ck_tables.specs.Readings.{Readings, plain_entry, plain_member}
 use Rattle.ck_expr_nodes.specs.SenseViews.{plain_sense}
+use Rattle.ck_expr_nodes.specs.declared.senses.Accessed.{Accessed}
 use Rattle.ck_expr_nodes.specs.declared.senses.Found.{Found}
 use Rattle.ck_expr_nodes.specs.declared.senses.Sense.{Sense}
 
@@ -22,3 +25,9 @@ pub record IsFound (w : Readings) (p : Place) (name : Token) (f : Found) : Type 
   pub sense_is : plain_sense w f.sense ≡ name_sense p name
   pub entry_is : plain_entry w f.entry ≡ meant p (text p name)
   pub function_is : plain_entry w f.function ≡ function_entry (meant p (text p name))
+
+-- 6.5.2.3: what the name of a member means after `.` or after `->`, where what is before it has this sense
+pub record IsAccessed (w : Readings) (p : Place) (is_dot : Bool) (a : senses.Sense) (name : Token) (f : Accessed)
+    : Type 0 where
+  pub sense_is : plain_sense w f.sense ≡ access p is_dot a (text p name)
+  pub member_is : plain_member w f.member ≡ member p is_dot a (text p name)

@@ -3,4 +3,5 @@ pub mod Walked
 pub mod Made
 -- From memory to plain values
 pub mod SenseViews
+pub mod StepValues
 pub mod Finding

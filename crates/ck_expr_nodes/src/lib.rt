@@ -7,8 +7,11 @@
 //! It must not know: the parser's trees, how types, values and declarations are kept, what is refused.
 #![tactic(auto)]
 
+mod casts;
 mod nodes;
 mod senses;
+mod suffixes;
 
 pub use nodes::{Value, Walk};
-pub use senses::{Found, Sense, Senses, sense_of};
+pub use senses::{Accessed, Found, Sense, Senses, sense_of};
+pub use suffixes::{Arguments, value_of};

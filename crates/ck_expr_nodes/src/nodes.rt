@@ -1,10 +1,12 @@
 //! Nodes of expressions over those before them, one function for each production.
-ghost use Rattle.std.specs.Prelude.{◌≡◌, false, IfOk};
+ghost use Rattle.std.specs.Prelude.{◌≡◌, true, false, length, IfOk};
 ghost use Rattle.ck_grammar.specs.Trees as plain;
 ghost use Rattle.ck_prog.specs.Declarations.{Place};
 ghost use Rattle.ck_prog.specs.TypedExpressions.{typed_expression};
-ghost use Rattle.ck_prog.specs.TypedTrees.{Typed};
+ghost use Rattle.ck_prog.specs.TypedTrees as typed;
+ghost use Rattle.ck_prog.specs.TypedTrees.{Links, Typed, last_link};
 ghost use Rattle.ck_prog.specs.Typing.{is_star as tells_star};
+ghost use Rattle.ck_tables.specs.ExprTable.{links_below, links_of, tree_at};
 ghost use Rattle.ck_tables.specs.Readings.{Readings, plain_facts};
 ghost use Rattle.ck_expr_nodes.specs.Finding.{Stays};
 ghost use Rattle.ck_expr_nodes.specs.Made as made;
@@ -15,6 +17,8 @@ use crate::senses::{Senses, sense_of};
 use ck_base::{OutOfMemory, Token};
 use ck_prog::{Assigning, Operator, Prefix, Role};
 use ck_tables::{EntryId, ExprId, ExprNode, Exprs, Facts, Link};
+use smallvec::SmallVec;
+use std::alloc::Global;
 
 /// An expression of the table, with what the expression around it asks for.
 #[derive(Clone, Copy)]
@@ -76,6 +80,36 @@ impl<S: Senses> Walk<S> {
         let sense = self.senses.constant(token)?;
         let facts = sense.facts(role, token, false);
         let id = self.exprs.push(ExprNode::Constant { facts })?;
+        Ok(Value {
+            id,
+            facts,
+            is_star: false,
+            function: None,
+        })
+    }
+
+    /// Adds string literals beside each other.
+    pub fn strings(
+        &mut self,
+        alloc: Global,
+        role: Role,
+        first: Token,
+        others: &[Token],
+    ) -> Result<Value, OutOfMemory>
+        ensures grows { Grows S.reads S.fits S.marks self.old.senses self.new.senses self.old.exprs self.new.exprs }
+        ensures there { S.place self.new.senses ≡ S.place self.old.senses }
+        ensures known { IfOk result (λ v. IsKnown (S.fits self.new.senses) self.new.exprs v) }
+        ensures star { IfOk result (λ v. v.is_star ≡ false) }
+        ensures meaning { IfOk
+            result
+            (λ v. (w : Readings) → S.reads self.new.senses w
+            → IsValue w self.new.exprs
+            (typed_expression (S.place self.old.senses) role (plain.Strings first others.now)) v) }
+    {
+        let sense = self.senses.strings(first, others)?;
+        let facts = sense.facts(role, first, false);
+        let others = others.to_vec(alloc)?;
+        let id = self.exprs.push(ExprNode::Strings { facts, others })?;
         Ok(Value {
             id,
             facts,
@@ -178,6 +212,39 @@ impl<S: Senses> Walk<S> {
             operator,
             operand: operand.id,
             facts,
+        })
+    }
+
+    /// Adds a chain, of which the last link has the value of the whole.
+    pub fn chain(
+        &mut self,
+        first: Value,
+        links: SmallVec<Link, 1>,
+        facts: Facts,
+    ) -> Result<Value, OutOfMemory>
+        requires first { IsKnown (S.fits self.old.senses) self.old.exprs first }
+        requires links { links_below (length self.old.exprs) links.items ≡ true }
+        requires facts { S.fits self.old.senses (sense_in facts) }
+        ensures grows { Grows S.reads S.fits S.marks self.old.senses self.new.senses self.old.exprs self.new.exprs }
+        ensures there { S.place self.new.senses ≡ S.place self.old.senses }
+        ensures known { IfOk result (λ v. IsKnown (S.fits self.new.senses) self.new.exprs v) }
+        ensures star { IfOk result (λ v. v.is_star ≡ false) }
+        ensures meaning { IfOk
+            result
+            (λ v. (w : Readings) (x : Typed) (ls : Links) → IsValue w self.old.exprs x first
+            → links_of w (tree_at w self.old.exprs) links.items ≡ ls
+            → plain_facts w facts ≡ last_link (typed.facts x) ls
+            → IsValue w self.new.exprs (typed.Chain x ls) v) }
+    {
+        let id = self.exprs.push(ExprNode::Chain {
+            first: first.id,
+            links,
+        })?;
+        Ok(Value {
+            id,
+            facts,
+            is_star: false,
+            function: None,
         })
     }
 
