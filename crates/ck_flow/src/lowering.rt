@@ -6,7 +6,7 @@ ghost use Rattle.ck_flow.specs.PointLimit.{IsPastLimit};
 ghost use Rattle.ck_flow.specs.SoundParts.{AreSound};
 ghost use Rattle.ck_graph.specs.Flow.{flow_of};
 ghost use Rattle.ck_kinds.specs.KindedDrafts.{flow_program};
-ghost use Rattle.ck_kinds.specs.TypedRows.{AreTypedCalls};
+ghost use Rattle.ck_call_rows.specs.TypedRows.{AreTypedCalls};
 ghost use Rattle.ck_points.specs.Graphs.{IsGraph, passing_limit};
 ghost use Rattle.ck_prog.specs.TypedBodies.{TypedFunction};
 ghost use Rattle.ck_tables.specs.Program.{functions};

@@ -14,7 +14,7 @@ use Rattle.ck_points.specs.Graphs.{op_in_row}
 use Rattle.ck_tables.specs.Numbers.{fits_if_any}
 use Rattle.ck_tables.specs.ProgramRows.{act_fits, outside_count, use_fits, use_row_fits}
 use Rattle.ck_tables.specs.Rows.{IsRow}
-use Rattle.ck_kinds.specs.TypedRows.{outside_ops, op_of_outside}
+use Rattle.ck_call_rows.specs.TypedRows.{outside_ops, op_of_outside}
 use Rattle.ck_tables.specs.declared.program.Linked.{Linked}
 use Rattle.ck_tables.specs.declared.program_rows.OutsideInfo.{OutsideInfo}
 use Rattle.ck_tables.specs.declared.program_rows.ProgramRows.{ProgramRows}

@@ -22,7 +22,7 @@ use Rattle.ck_prog.specs.PathOrder.{CallsAscend}
 use Rattle.ck_prog.specs.Paths.{Path}
 use Rattle.ck_prog.specs.TypedBodies.{TypedFunction}
 use Rattle.ck_tables.specs.Program.{functions}
-use Rattle.ck_kinds.specs.TypedRows.{CallPlace, place_of_site, call_places, place_of_row, project, AreTypedCalls}
+use Rattle.ck_call_rows.specs.TypedRows.{CallPlace, place_of_site, call_places, place_of_row, project, AreTypedCalls}
 use Rattle.ck_tables.specs.declared.program.Linked.{Linked}
 use Rattle.ck_tables.specs.declared.program_rows.ProgramRows.{ProgramRows}
 

@@ -7,7 +7,7 @@ use Rattle.std.specs.Ordering.{nat_cmp, ordering_then, is_lt, is_eq}
 use Rattle.std.specs.declared.cmp.Ordering.{Ordering}
 use Rattle.std.specs.declared.cmp.Ordering.TheVariants.{Less, Greater}
 use Rattle.ck_prog.specs.Paths.{Path}
-use Rattle.ck_kinds.specs.TypedRows.{CallPlace}
+use Rattle.ck_call_rows.specs.TypedRows.{CallPlace}
 
 abbrev pub call_place : ℕ → Path → CallPlace
 call_place i π = record { function = i; path = π }

@@ -9,7 +9,7 @@ use Rattle.ck_points.specs.Graphs.{Program}
 use Rattle.ck_prog.specs.Paths.{Path}
 use Rattle.ck_prog.specs.TypedBodies.{TypedFunction}
 use Rattle.ck_tables.specs.Program.{functions}
-use Rattle.ck_kinds.specs.TypedRows.{AreTypedCalls, CallPlace, place_of_row}
+use Rattle.ck_call_rows.specs.TypedRows.{AreTypedCalls, CallPlace, place_of_row}
 use Rattle.ck_tables.specs.declared.program.Linked.{Linked}
 use Rattle.ck_tables.specs.declared.program_rows.ProgramRows.{ProgramRows}
 

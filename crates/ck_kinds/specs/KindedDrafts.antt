@@ -6,7 +6,7 @@ use Rattle.ck_passages.specs.declared.drawing.PassagePoint.{PassagePoint}
 use Rattle.ck_points.specs.Graphs.{Program, kind_of}
 use Rattle.ck_prog.specs.TypedBodies.{TypedFunction}
 use Rattle.ck_tables.specs.Program.{functions}
-use Rattle.ck_kinds.specs.TypedRows.{project, outside_ops}
+use Rattle.ck_call_rows.specs.TypedRows.{project, outside_ops}
 use Rattle.ck_tables.specs.declared.program.Linked.{Linked}
 use Rattle.ck_tables.specs.declared.program_rows.ProgramRows.{ProgramRows}
 

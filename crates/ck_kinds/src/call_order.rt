@@ -3,7 +3,7 @@ ghost use Rattle.std.specs.Prelude.{◌≡◌, suc, [], ◌∷◌, ◌++◌};
 ghost use Rattle.std.specs.Cmp.Lexicographic.{slice_cmp};
 ghost use Rattle.std.specs.Ordering.{nat_cmp};
 ghost use Rattle.ck_kinds.specs.CallOrder as spec;
-ghost use Rattle.ck_kinds.specs.TypedRows.{place_of_row};
+ghost use Rattle.ck_call_rows.specs.TypedRows.{place_of_row};
 
 use ck_base::FnId;
 use ck_tables::CallInfo;

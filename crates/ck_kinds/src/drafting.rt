@@ -5,7 +5,7 @@ ghost use Rattle.ck_kinds.specs.Callers as spec;
 ghost use Rattle.ck_kinds.specs.KindedDrafts.{drafted};
 ghost use Rattle.ck_prog.specs.TypedBodies.{TypedFunction};
 ghost use Rattle.ck_tables.specs.Program.{functions};
-ghost use Rattle.ck_kinds.specs.TypedRows.{AreTypedCalls};
+ghost use Rattle.ck_call_rows.specs.TypedRows.{AreTypedCalls};
 
 use crate::callers::Caller;
 use ck_base::{FnId, OutOfMemory};

@@ -7,7 +7,7 @@ ghost use Rattle.ck_prog.specs.Acts as acts;
 ghost use Rattle.ck_prog.specs.TypedBodies.{TypedFunction};
 ghost use Rattle.ck_tables.specs.Program.{functions};
 ghost use Rattle.ck_tables.specs.ProgramRows.{act_fits, outside_count};
-ghost use Rattle.ck_kinds.specs.TypedRows.{AreTypedCalls, outside_ops, project};
+ghost use Rattle.ck_call_rows.specs.TypedRows.{AreTypedCalls, outside_ops, project};
 
 use crate::callers::Caller;
 use ck_base::Op;

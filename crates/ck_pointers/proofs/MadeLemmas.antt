@@ -6,7 +6,7 @@ use Rattle.std.proofs.lemmas.List.Elements.{All-push}
 use Rattle.std.proofs.lemmas.Bool.{and_parts, ltb-true}
 use Rattle.std.specs.List.{All, slice_get, slice_index_or}
 use Rattle.std.specs.Prelude.{nat_lt}
-use Rattle.ck_kinds.specs.TypedRows.{declarations}
+use Rattle.ck_call_rows.specs.TypedRows.{declarations}
 use Rattle.ck_prog.specs.Calls.{CallSite}
 use Rattle.ck_prog.specs.Slots.{Slot}
 use Rattle.ck_prog.specs.Senses.{value_type}

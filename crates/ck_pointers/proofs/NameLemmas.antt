@@ -7,7 +7,7 @@ use Rattle.std.specs.List.{slice_get}
 use Rattle.std.specs.Option.{option_map}
 use Rattle.ck_base.specs.declared.spans.FnId.{FnId}
 use Rattle.ck_base.specs.declared.spans.SlotId.{SlotId}
-use Rattle.ck_kinds.specs.TypedRows.{declarations, number_of_function}
+use Rattle.ck_call_rows.specs.TypedRows.{declarations, number_of_function}
 use Rattle.ck_prog.specs.Calls.{function_number, functions_of}
 use Rattle.ck_prog.specs.Declarations as plain
 use Rattle.ck_prog.specs.Declarations.{Entry, Meaning}

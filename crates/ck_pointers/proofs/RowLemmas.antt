@@ -9,7 +9,7 @@ use Rattle.std.specs.List.{All, list_all, slice_get}
 use Rattle.std.specs.Prelude.{◌&&◌, ◌-◌, nat_lt}
 use Rattle.std.specs.declared.alloc.Global.{Global}
 use Rattle.std.specs.declared.vec.Vec.{Vec}
-use Rattle.ck_kinds.specs.TypedRows.{declarations}
+use Rattle.ck_call_rows.specs.TypedRows.{declarations}
 use Rattle.ck_prog.specs.Calls.{CallSite}
 use Rattle.ck_prog.specs.TypedTrees as trees
 use Rattle.ck_reaching.specs.Rules.{System}

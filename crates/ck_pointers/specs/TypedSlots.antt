@@ -4,7 +4,7 @@
 use Rattle.std.specs.Prelude.{◌≡◌, ◌<◌, ℕ, Bool, true, ◌&&◌, List, [], length, map, slice_get, Contains}
 use Rattle.std.specs.Prelude.{Option, Some, None}
 use Rattle.ck_base.specs.declared.spans.SlotId.{SlotId}
-use Rattle.ck_kinds.specs.TypedRows.{AreTypedCalls, declarations}
+use Rattle.ck_call_rows.specs.TypedRows.{AreTypedCalls, declarations}
 use Rattle.ck_prog.specs.Calls.{functions_of}
 use Rattle.ck_prog.specs.Declarations.{Entry}
 use Rattle.ck_prog.specs.Slots as spec

@@ -1,7 +1,7 @@
 //! Where the values of a typed project's expressions come from, by rules.
 ghost use Rattle.std.specs.Prelude.{◌≡◌, ◌<◌, ◌≤◌, true, length, All, IfOk, OnOk};
 ghost use Rattle.std.specs.List.{list_all};
-ghost use Rattle.ck_kinds.specs.TypedRows.{declarations};
+ghost use Rattle.ck_call_rows.specs.TypedRows.{declarations};
 ghost use Rattle.ck_pointers.specs.ExpressionSources as spec;
 ghost use Rattle.ck_pointers.specs.ExpressionSources.{tables, rows, AreReady, StandsAlways, IsMade, IsMadeOf, AreMade};
 ghost use Rattle.ck_pointers.specs.ExpressionSources.{origin_of_row};

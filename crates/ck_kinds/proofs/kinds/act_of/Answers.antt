@@ -1,5 +1,5 @@
 use Rattle.std.proofs.Common.{ap, sym, ◌∙◌}
-use Rattle.ck_kinds.specs.TypedRows.{project}
+use Rattle.ck_call_rows.specs.TypedRows.{project}
 use Rattle.ck_passages.specs.Points.{declared_at}
 use Rattle.ck_prog.specs.Acts.{act_of}
 use Rattle.ck_kinds.proofs.kinds.act_of.Goals as goal

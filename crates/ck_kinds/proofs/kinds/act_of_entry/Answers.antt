@@ -1,6 +1,6 @@
 use Rattle.std.proofs.Common.{◌<◌, ◌≤◌, length, ap, sym, subst, ◌∙◌}
 use Rattle.ck_kinds.proofs.ActLemmas.{row-get, act-fits}
-use Rattle.ck_kinds.specs.TypedRows.{project}
+use Rattle.ck_call_rows.specs.TypedRows.{project}
 use Rattle.ck_passages.proofs.NamedEntries.{declared-within, declared-past}
 use Rattle.ck_prog.specs.Acts.{act_of}
 use Rattle.ck_kinds.proofs.kinds.act_of_entry.Goals as goal

@@ -3,7 +3,7 @@ use Rattle.std.specs.Prelude.{true}
 use Rattle.ck_kinds.proofs.ActLemmas.{below, op-row, op_of_row}
 use Rattle.ck_points.specs.Graphs.{op_of}
 use Rattle.ck_tables.specs.ProgramRows.{act_fits, outside_count}
-use Rattle.ck_kinds.specs.TypedRows.{outside_ops}
+use Rattle.ck_call_rows.specs.TypedRows.{outside_ops}
 use Rattle.ck_kinds.proofs.kinds.op_of.Goals as goal
 
 pub op-requires : goal.op-requires

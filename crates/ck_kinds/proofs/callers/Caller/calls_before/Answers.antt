@@ -3,7 +3,7 @@ use Rattle.std.specs.Ordering.{is_lt}
 use Rattle.ck_kinds.specs.CallOrder.{against, call_place}
 use Rattle.ck_kinds.specs.Callers.{IsRankOf, rows}
 use Rattle.ck_kinds.proofs.Ranks.{rank-within, rank-less, rank-other}
-use Rattle.ck_kinds.specs.TypedRows.{place_of_row}
+use Rattle.ck_call_rows.specs.TypedRows.{place_of_row}
 use Rattle.ck_kinds.proofs.callers.Caller.calls_before.Goals as goal
 
 pub search-init : goal.search-init

@@ -3,7 +3,7 @@ use Rattle.std.specs.Ordering.{is_eq}
 use Rattle.ck_kinds.specs.CallOrder.{against, call_place}
 use Rattle.ck_kinds.specs.Callers.{IsRankOf, rows}
 use Rattle.ck_kinds.proofs.Ranks.{rank-past, rank-here}
-use Rattle.ck_kinds.specs.TypedRows.{place_of_row}
+use Rattle.ck_call_rows.specs.TypedRows.{place_of_row}
 use Rattle.ck_kinds.proofs.callers.Caller.has_call_at.Goals as goal
 
 pub returns-then-number-self : goal.returns-then-number-self

@@ -1,6 +1,6 @@
 use Rattle.std.proofs.Common.{◌≡◌, ◌++◌, [], ◌∷◌, length, sym, subst, arith}
 use Rattle.ck_tables.specs.ExprTable.{IsNode}
-use Rattle.ck_kinds.specs.TypedRows.{declarations}
+use Rattle.ck_call_rows.specs.TypedRows.{declarations}
 use Rattle.ck_slots.specs.Origins.{origin}
 use Rattle.ck_pointers.specs.ExpressionSources.{AreMade, IsMade, tables, tree_of_node}
 use Rattle.ck_pointers.proofs.RowLemmas.{made_more}

@@ -1,5 +1,5 @@
 use Rattle.std.proofs.Common.{Some, sym, subst}
-use Rattle.ck_kinds.specs.TypedRows.{declarations}
+use Rattle.ck_call_rows.specs.TypedRows.{declarations}
 use Rattle.ck_slots.specs.Origins.{origin_of_member}
 use Rattle.ck_tables.specs.Program.{member_of, readings}
 use Rattle.ck_tables.specs.Readings.{plain_member}

@@ -4,7 +4,7 @@ use Rattle.std.proofs.lemmas.Result.{IfOk-weaker}
 use Rattle.std.specs.Prelude.{◌&&◌, nat_lt}
 use Rattle.std.specs.Result.{IfOk}
 use Rattle.std.specs.List.{list_all}
-use Rattle.ck_kinds.specs.TypedRows.{declarations}
+use Rattle.ck_call_rows.specs.TypedRows.{declarations}
 use Rattle.ck_slots.specs.Origins.{goes_through, origin}
 use Rattle.ck_tables.specs.ExprTable.{links_below, reads_below}
 use Rattle.ck_tables.specs.Numbers.{expression_node_fits, numbers, step_fits}

@@ -1,5 +1,5 @@
 use Rattle.std.proofs.Common.{sym, subst}
-use Rattle.ck_kinds.specs.TypedRows.{declarations}
+use Rattle.ck_call_rows.specs.TypedRows.{declarations}
 use Rattle.ck_prog.specs.Slots.{slot_of_result}
 use Rattle.ck_slots.specs.Holders.{holder}
 use Rattle.ck_slots.specs.Origins.{held}
