@@ -1,0 +1,2 @@
+-- From memory to plain values
+pub mod Constants
