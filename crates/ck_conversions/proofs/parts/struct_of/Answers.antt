@@ -1,0 +1,9 @@
+use Rattle.std.proofs.Common.{◌∙◌}
+use Rattle.ck_types.specs.TypeTable.{entries_of}
+use Rattle.ck_conversions.proofs.Looks.{looked}
+use Rattle.ck_conversions.specs.Parts.{struct_in}
+use Rattle.ck_conversions.proofs.parts.struct_of.Goals as goal
+
+pub returns : goal.returns
+returns c = λ identity. c.struct_of.ensures identity (entries_of identity c.args.types.now)
+    ∙ looked struct_in identity c.args.types.now c.args.id c.node.result c.node.ensures.table c.node.ensures.node
